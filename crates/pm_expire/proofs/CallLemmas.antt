@@ -47,7 +47,7 @@ read_ahead : (n : ℕ) (to : read_phase.Phase) (new : Phase) → AfterRead to ne
     → IsAhead (n + (announce_calls + (view_calls + calls_to 0 most_paths))) new
 read_ahead n to new (reads_on more is) fewer =
     subst (IsAhead (n + (announce_calls + (view_calls + calls_to 0 most_paths)))) (sym is) (omega (arith, fewer), omega arith, tt)
-read_ahead n to new (none_goes x at end is) fewer =
+read_ahead n to new (none_goes x at end order is) fewer =
     subst (IsAhead (n + (announce_calls + (view_calls + calls_to 0 most_paths)))) (sym is) (omega arith, refl, tt)
 read_ahead n to new (some_goes x at goes within is) fewer =
     subst (IsAhead (n + (announce_calls + (view_calls + calls_to 0 most_paths)))) (sym is) (omega (arith, fewer, within), omega arith, tt)
@@ -92,7 +92,7 @@ announce_ahead m to answer new is on (announces_on not at) =
 announce_ahead m to answer new is on (none_goes_then a here end at) =
     let fewer = (announcing_facts.goes m answer to on).0 in
     subst (IsAhead (announcing.calls_left m + views_left m)) (sym at) (omega (arith, fewer), refl, tt)
-announce_ahead m to answer new is on (views_first a d here some less none at) =
+announce_ahead m to answer new is on (views_first a d here order less none at) =
     let fewer = (announcing_facts.goes m answer to on).0 in
     let begun = views_begun m to answer a is on here in
     subst (IsAhead (announcing.calls_left m + views_left m)) (sym at) (omega (arith, fewer, begun), omega arith, tt)

@@ -32,7 +32,7 @@ above_head x xs rises y c =
     subst (λ (z : ℕ). x < z) c.2 (AllPairs-from_increasing (x ∷ xs) rises 0 (suc c.0) y (omega arith) (omega (arith, below)))
 
 -- between two of the numbers none lacks
-abbrev IsDense : List ℕ → Type 0
+abbrev pub IsDense : List ℕ → Type 0
 IsDense ids = (low high : ℕ) → Contains ids low → Contains ids high → low < high → Contains ids (low + 1)
 
 pub rising_tail : (x : ℕ) (xs : List ℕ) → IsStrictlyIncreasing (x ∷ xs) → IsStrictlyIncreasing xs
@@ -63,7 +63,7 @@ module _ (f : Files) (s : TableSchema) (newest : ℕ) (ids : List ℕ) (has : Ha
       (are.exact id).1 (after, low, at_snapshot f s id after ((has.exact id low).1 (from, to)))
 
   -- none lacks between two that are there
-  none_lacks : IsDense ids
+  pub none_lacks : IsDense ids
   none_lacks low high one other below =
       let least = in_range low one in
       let most = in_range high other in
@@ -71,7 +71,7 @@ module _ (f : Files) (s : TableSchema) (newest : ℕ) (ids : List ℕ) (has : Ha
       let to = most.3 in
       listed (low + 1) (omega arith) (omega (arith, from)) (omega (arith, to, below))
 
-dense_tail : (x : ℕ) (xs : List ℕ) → IsStrictlyIncreasing (x ∷ xs) → IsDense (x ∷ xs) → IsDense xs
+pub dense_tail : (x : ℕ) (xs : List ℕ) → IsStrictlyIncreasing (x ∷ xs) → IsDense (x ∷ xs) → IsDense xs
 dense_tail x xs rising dense low high one other below =
     elim (cases x xs (low + 1) (dense low high (more x xs low one) (more x xs high other) below)) as (λ _. Contains xs (low + 1)) [
       | inl same ↦ (let above = above_head x xs rising low one in absurd (omega (arith, above, same)))
@@ -85,7 +85,7 @@ last_tail t v before =
     let fewer : size ≡ suc size - 1 = omega arith in
     ap (λ (k : ℕ). id_at (t ∷ v ∷ before) k) all ∙ ap (λ (k : ℕ). id_at (v ∷ before) k) fewer
 
-follows : (before : List (ℕ × ℤ)) (u : ℕ × ℤ) (chain : List (ℕ × ℤ)) → IsStrictlyIncreasing (ids_in (before ++ u ∷ chain))
+pub follows : (before : List (ℕ × ℤ)) (u : ℕ × ℤ) (chain : List (ℕ × ℤ)) → IsStrictlyIncreasing (ids_in (before ++ u ∷ chain))
     → IsDense (ids_in (before ++ u ∷ chain)) → 0 < length before → last_id before + 1 ≡ u.0
 follows [] u chain rising dense some = absurd (omega (arith, some))
 follows (t ∷ []) u chain rising dense some =

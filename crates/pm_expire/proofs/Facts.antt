@@ -15,6 +15,7 @@ use Rattle.pm_machine.specs.Running.{Refuses, Stops}
 use Rattle.pm_machine.proofs.Facts.{image_changed}
 use Rattle.pm_model_folder.specs.Changes.{Actor}
 use Rattle.pm_model_folder.specs.Ledger.{Advances, Past, Stands}
+use Rattle.pm_model_folder.proofs.LedgerFacts.{known-still}
 use Rattle.pm_model_expiry.specs.Removals.{Expiry, KnowsRemovals}
 use Rattle.pm_remove.specs.Meaning as removing_meaning
 use Rattle.pm_remove.specs.Remover as removing
@@ -43,7 +44,7 @@ use Rattle.pm_expire.specs.Meaning.{IsPlainRead, Knows, KnowsBeside, KnowsRemove
 use Rattle.pm_expire.specs.declared.phase.Phase.{Phase}
 use Rattle.pm_expire.specs.declared.phase.Phase.TheVariants as phases
 use Rattle.pm_expire.specs.declared.phase.Views.{Views}
-use Rattle.pm_expire.proofs.KnowsLemmas.{PathsNamed, RemovalsBegin, begins_known, more_views, none_views, read_names, removals_known, remover_known, same_advances, views_still}
+use Rattle.pm_expire.proofs.KnowsLemmas.{BetweenStays, PathsNamed, RemovalsBegin, begins_known, done_still, found_done, more_views, none_views, read_names, removals_known, remover_known, same_advances, views_still}
 use Rattle.pm_expire.proofs.PhaseLemmas.{plain_stays}
 
 -- ---- laws of crates below
@@ -86,18 +87,18 @@ pub record Laws : Type 0 where
 
 module _ (laws : Laws) (me : Actor) (f : Files) (p : Past) (stands : Stands f p) where
   -- a remover's change is one of its kinds
-  remove_made : (r : RemovalView) → KnowsRemover (removers.Remove r) f p → (after : Files) → removing_meaning.Makes (removers.Remove r) f after
+  remove_made : (first last : ℕ) (r : RemovalView) → KnowsRemover first last (removers.Remove r) f p → (after : Files) → removing_meaning.Makes (removers.Remove r) f after
       → Removes me r.next f p after p
-  remove_made r (x, known) after (inl same) = record { advances = same_advances me f after p same; same = refl; files = λ path other. same path }
-  remove_made r (x, known) after (inr (there, puts)) = record {
+  remove_made first last r (x, end, order, newest, known) after (inl same) = record { advances = same_advances me f after p same; same = refl; files = λ path other. same path }
+  remove_made first last r (x, end, order, newest, known) after (inr (there, puts)) = record {
     advances = laws.removes x r.next r.rest me f after p stands known there puts;
     same = refl;
     files = puts.others;
   }
 
-  made_at : (first last : ℕ) (m : remove_phase.Phase) → KnowsRemover m f p → (after : Files) → removing_meaning.Makes m f after
+  made_at : (first last : ℕ) (m : remove_phase.Phase) → KnowsRemover first last m f p → (after : Files) → removing_meaning.Makes m f after
       → Makes me (phases.Remove first last m) f p after p
-  made_at first last (removers.Remove r) known after makes = remove_made r known after makes
+  made_at first last (removers.Remove r) known after makes = remove_made first last r known after makes
   made_at first last m known after makes = absurd makes
 
   pub changes_at : (m : Phase) → Knows m f p → IfSome (next_call m) (λ call. Changes (MakesBeside m) call f (me, p))
@@ -117,7 +118,8 @@ module _ (laws : Laws) (me : Actor) (f : Files) (p : Past) (stands : Stands f p)
   read_known : (to : read_phase.Phase) (new : Phase) (after : Files) (later : Past) → AfterRead to new → IsPlainRead to
       → reading_meaning.Knows to after later → Knows new after later
   read_known to new after later (reads_on more is) plain known = subst (λ (m : Phase). Knows m after later) (sym is) (plain, known)
-  read_known to new after later (none_goes x at end is) plain known = subst (λ (m : Phase). Knows m after later) (sym is) tt
+  read_known to new after later (none_goes x at end order is) plain known = subst (λ (m : Phase). Knows m after later) (sym is)
+      (found_done x x.end after later end order (subst (λ (m : read_phase.Phase). reading_meaning.Knows m after later) at known))
   read_known to new after later (some_goes x at goes within is) plain known = subst (λ (m : Phase). Knows m after later) (sym is) (record {
     to_announce = goes;
     plain = subst IsPlainRead at plain;
@@ -125,15 +127,16 @@ module _ (laws : Laws) (me : Actor) (f : Files) (p : Past) (stands : Stands f p)
   })
 
   view_known : (a : Announced) (d : DroppingView) (id : ℕ) (after : Files) (later : Past) → Stands after later → a.found.first < a.end → a.found.first ≤ id
-      → id ≤ a.end → announcing_meaning.KnowsEnd a.found a.end after later → KnowsViews (views_of a d id) later
+      → id ≤ a.end → a.end ≤ a.found.last → announcing_meaning.KnowsEnd a.found a.end after later → KnowsViews (views_of a d id) later
       → Knows (view_next a d id) after later
-  view_known a d id after later still less low high end views =
+  view_known a d id after later still less low high order end views =
       let within = (end.left (λ e. omega (arith, e, less))).announced.within in
       let some = end.of.to_announce.some in
       record {
         some = less;
         from = low;
         to = high;
+        order = order;
         end = end;
         views = views;
         reader = begins_known after later a.found.schema id still end.of.found.table (omega (arith, some, low))
@@ -143,11 +146,17 @@ module _ (laws : Laws) (me : Actor) (f : Files) (p : Past) (stands : Stands f p)
   announced_known : (to : announce_phase.Phase) (new : Phase) (after : Files) (later : Past) → Stands after later → AfterAnnounce to new
       → announcing_meaning.Knows to after later → Knows new after later
   announced_known to new after later still (announces_on more is) known = subst (λ (m : Phase). Knows m after later) (sym is) known
-  announced_known to new after later still (none_goes_then a at end is) known = subst (λ (m : Phase). Knows m after later) (sym is) tt
-  announced_known to new after later still (views_first a d at some less none is) known =
+  announced_known to new after later still (none_goes_then a at same is) known =
       let end : announcing_meaning.KnowsEnd a.found a.end after later = subst (λ (m : announce_phase.Phase). announcing_meaning.Knows m after later) at known in
+      let below = end.of.to_announce.first in
+      let above = end.of.to_announce.last in
+      subst (λ (m : Phase). Knows m after later) (sym is) (found_done a.found a.end after later same (omega (arith, same, below, above)) end.of.found)
+  announced_known to new after later still (views_first a d at order less none is) known =
+      let end : announcing_meaning.KnowsEnd a.found a.end after later = subst (λ (m : announce_phase.Phase). announcing_meaning.Knows m after later) at known in
+      let low = order.last in
+      let high = order.of.last in
       subst (λ (m : Phase). Knows m after later) (sym is)
-      (view_known a d a.found.first after later still less (omega arith) (omega (arith, less)) end (none_views a d later none))
+      (view_known a d a.found.first after later still less (omega arith) (omega (arith, less)) (omega (arith, low, high)) end (none_views a d later none))
 
   -- where no path has another content
   past_same : (after : Files) (later : Past) → IsKept f p after later → Stands after later
@@ -161,14 +170,14 @@ module _ (laws : Laws) (me : Actor) (f : Files) (p : Past) (stands : Stands f p)
       (laws.announced (announcers.Announced a) me f after p p stands (same_advances me f after p kept.files) known)
 
   added_known : (a : Announced) (d : DroppingView) (id : ℕ) (new : Phase) (after : Files) (later : Past) → Stands after later → a.found.first < a.end
-      → a.found.first ≤ id → id ≤ a.end → announcing_meaning.KnowsEnd a.found a.end after later → KnowsViews (views_of a d (id + 1)) later
-      → AfterAdding a d id new → Knows new after later
-  added_known a d id new after later still less low high end views (views_next below is) =
+      → a.found.first ≤ id → id ≤ a.end → a.end ≤ a.found.last → announcing_meaning.KnowsEnd a.found a.end after later
+      → KnowsViews (views_of a d (id + 1)) later → AfterAdding a d id new → Knows new after later
+  added_known a d id new after later still less low high order end views (views_next below is) =
       subst (λ (m : Phase). Knows m after later) (sym is)
-      (view_known a d (id + 1) after later still less (omega (arith, low)) (omega (arith, below)) end views)
-  added_known a d id new after later still less low high end views (views_all paths at are is) =
+      (view_known a d (id + 1) after later still less (omega (arith, low)) (omega (arith, below)) order end views)
+  added_known a d id new after later still less low high order end views (views_all paths at are is) =
       let all : KnowsViews (views_of a d (a.end + 1)) later = subst (λ (n : ℕ). KnowsViews (views_of a d (n + 1)) later) at views in
-      subst (λ (m : Phase). Knows m after later) (sym is) (removals_known laws.begins a d paths after later less end all are)
+      subst (λ (m : Phase). Knows m after later) (sym is) (removals_known laws.begins a d paths after later less order end all are)
 
   viewed_known : (v : Views) (to : whole_phase.Phase) (new : Phase) (after : Files) (later : Past) → IsKept f p after later → AfterView v to new
       → (m : whole_phase.Phase) → KnowsView v m f p → whole_meaning.Knows to after later → Knows new after later
@@ -176,27 +185,30 @@ module _ (laws : Laws) (me : Actor) (f : Files) (p : Past) (stands : Stands f p)
     some = known.some;
     from = known.from;
     to = known.to;
+    order = known.order;
     end = end_still v.announced after later kept known.end;
     views = subst (KnowsViews v) (sym kept.past) known.views;
     reader = read;
   })
   viewed_known v to new after later kept (view_read d ready of adds on) m known read =
       let views : KnowsViews v later = subst (KnowsViews v) (sym kept.past) known.views in
-      added_known v.announced d v.id new after later (past_same after later kept) known.some known.from known.to
+      added_known v.announced d v.id new after later (past_same after later kept) known.some known.from known.to known.order
       (end_still v.announced after later kept known.end)
       (more_views v d (whole.paths_of to) later known.from views (read_names laws.paths v to after later ready of read) adds) on
 
   removed_known : (first last : ℕ) (to : remove_phase.Phase) (new : Phase) (after : Files) (later : Past) → AfterRemove first last to new
-      → KnowsRemover to after later → Knows new after later
+      → KnowsRemover first last to after later → Knows new after later
   removed_known first last to new after later (removes_on more is) known = subst (λ (m : Phase). Knows m after later) (sym is) known
-  removed_known first last to new after later (removed_all at is) known = subst (λ (m : Phase). Knows m after later) (sym is) tt
+  removed_known first last to new after later (removed_all at is) known = subst (λ (m : Phase). Knows m after later) (sym is)
+      (subst (λ (m : remove_phase.Phase). KnowsRemover first last m after later) at known)
 
   -- the next of what is to be removed
-  rest_known : (m : remove_phase.Phase) (answer : Answer) (to : remove_phase.Phase) → removing.Goes m answer to → KnowsRemover m f p → (after : Files)
-      → removing_meaning.Clears m f after → KnowsRemover to after p
-  rest_known (removers.Remove r) (answers.Removed answer) to at (x, known) after puts = subst (λ (m : remove_phase.Phase). KnowsRemover m after p) (sym at)
-      (remover_known x r.rest after p (laws.leaves x r.next r.rest f after p stands known puts))
-  rest_known m answer to on known after puts = absurd on
+  rest_known : (first last : ℕ) (m : remove_phase.Phase) (answer : Answer) (to : remove_phase.Phase) → removing.Goes m answer to
+      → KnowsRemover first last m f p → (after : Files) → removing_meaning.Clears m f after → KnowsRemover first last to after p
+  rest_known first last (removers.Remove r) (answers.Removed answer) to at (x, end, order, newest, known) after puts =
+      subst (λ (m : remove_phase.Phase). KnowsRemover first last m after p) (sym at)
+      (remover_known x first last r.rest after p end order newest (laws.leaves x r.next r.rest f after p stands known puts))
+  rest_known first last m answer to on known after puts = absurd on
 
   announced_stands : (m : announce_phase.Phase) (after : Files) (later : Past) → announcing_meaning.Makes me m f p after later → Stands after later
   announced_stands (announcers.Announce x) after later change = laws.stays me f after p later stands change.advances
@@ -223,7 +235,7 @@ module _ (laws : Laws) (me : Actor) (f : Files) (p : Past) (stands : Stands f p)
       ((me, later), (refl, kept), viewed_known v to new (carried call f) later kept after m known knows))
   went_at (phases.Remove first last m) answer new (to, on, after) known =
       IfSome_then (removing.next_call m)
-      (leads_of (Makes me (phases.Remove first last m)) (KnowsRemover to) m answer to f p on (made_at first last m known) (rest_known m answer to on known))
+      (leads_of (Makes me (phases.Remove first last m)) (KnowsRemover first last to) m answer to f p on (made_at first last m known) (rest_known first last m answer to on known))
       (λ call led told.
       let (later, change, knows) = led told in
       ((me, later), (refl, change), removed_known first last to new (carried call f) later after knows))
@@ -267,6 +279,7 @@ pub record Stay : Type 0 where
   pub found : FoundStays
   pub viewed : WholeStays
   pub removals : RemovalsStay
+  pub between : BetweenStays
 
 pub knows_still : Stay → (m : Phase) (other : Actor) (f after : Files) (p q : Past) → Stands f p → Advances other f p after q → Knows m f p → Knows m after q
 knows_still laws (phases.Read m) other f after p q stands advances (plain, known) = (plain, laws.found m other f after p q stands advances known)
@@ -275,15 +288,18 @@ knows_still laws (phases.View v m) other f after p q stands advances known = rec
   some = known.some;
   from = known.from;
   to = known.to;
+  order = known.order;
   end = laws.announced (announcers.Announced v.announced) other f after p q stands advances known.end;
   views = views_still v other f after p q advances known.views;
   reader = laws.viewed m other f after p q stands advances known.reader;
 }
-knows_still laws (phases.Remove first last (removers.Remove r)) other f after p q stands advances (x, known) =
-    (x, laws.removals x (r.next ∷ r.rest) other f after p q stands advances known)
-knows_still laws (phases.Remove first last removers.Removed) other f after p q stands advances known = tt
+knows_still laws (phases.Remove first last (removers.Remove r)) other f after p q stands advances (x, end, order, newest, known) =
+    (x, end, order, known-still other f after p q last advances newest, laws.removals x (r.next ∷ r.rest) other f after p q stands advances known)
+knows_still laws (phases.Remove first last removers.Removed) other f after p q stands advances known =
+    done_still laws.between first last other f after p q stands advances known
 knows_still laws (phases.Remove first last removers.Over) other f after p q stands advances known = tt
-knows_still laws (phases.Done first last) other f after p q stands advances known = tt
+knows_still laws (phases.Done first last) other f after p q stands advances known =
+    done_still laws.between first last other f after p q stands advances known
 knows_still laws phases.Over other f after p q stands advances known = tt
 
 -- ---- images

@@ -38,21 +38,21 @@ use Rattle.pm_expire.proofs.OneEndLemmas.{in_map, map_in}
 
 -- ---- the first and the last
 
-at_index : (times : List (ℕ × ℤ)) (t : ℕ × ℤ) (k : ℕ) → k < length times → id_at times k ≡ (slice_index_or times k t).0
+pub at_index : (times : List (ℕ × ℤ)) (t : ℕ × ℤ) (k : ℕ) → k < length times → id_at times k ≡ (slice_index_or times k t).0
 at_index [] t k within = absurd (omega (arith, within))
 at_index (u ∷ times) t zero within = refl
 at_index (u ∷ times) t (suc k) within = at_index times t k (omega (arith, within))
 
-item_at : (times : List (ℕ × ℤ)) (k : ℕ) → k < length times → Contains (ids_in times) (id_at times k)
+pub item_at : (times : List (ℕ × ℤ)) (k : ℕ) → k < length times → Contains (ids_in times) (id_at times k)
 item_at [] k within = absurd (omega (arith, within))
 item_at (u ∷ times) k within =
     subst (λ (id : ℕ). Contains (ids_in (u ∷ times)) id) (sym (at_index (u ∷ times) u k within))
     (map_in (λ (t : ℕ × ℤ). t.0) (u ∷ times) (slice_index_or (u ∷ times) k u) (k, within, again (u ∷ times) u k within))
-    where
-      again : (times : List (ℕ × ℤ)) (d : ℕ × ℤ) (k : ℕ) → k < length times → slice_index_or times k (slice_index_or times k d) ≡ slice_index_or times k d
-      again [] d k within = absurd (omega (arith, within))
-      again (v ∷ times) d zero within = refl
-      again (v ∷ times) d (suc k) within = again times d k (omega (arith, within))
+  where
+    again : (times : List (ℕ × ℤ)) (d : ℕ × ℤ) (k : ℕ) → k < length times → slice_index_or times k (slice_index_or times k d) ≡ slice_index_or times k d
+    again [] d k within = absurd (omega (arith, within))
+    again (v ∷ times) d zero within = refl
+    again (v ∷ times) d (suc k) within = again times d k (omega (arith, within))
 
 within_chain : (times : List (ℕ × ℤ)) (id : ℕ) → AreConsecutive times → Contains (ids_in times) id → (first_id times ≤ id) × (id ≤ last_id times)
 within_chain times id each c =
@@ -69,16 +69,16 @@ module _ (f : Files) (s : TableSchema) (entries : List Entry) (folder : HasTable
   abbrev times : List (ℕ × ℤ)
   times = times_of lines
 
-  among : (id : ℕ) → Contains (ids_in times) id → Contains (ids_of lines) id
+  pub among : (id : ℕ) → Contains (ids_in times) id → Contains (ids_of lines) id
   among id c = subst (λ (ids : List ℕ). Contains ids id) (sym (same_ids lines)) c
 
-  has_first : Contains (ids_of lines) (first_id times)
+  pub has_first : Contains (ids_of lines) (first_id times)
   has_first = among (first_id times) (item_at times 0 each.some)
 
   has_last : Contains (ids_of lines) (last_id times)
   has_last = let some = each.some in among (last_id times) (item_at times (length times - 1) (omega (arith, some)))
 
-  span : (id : ℕ) → Contains (ids_of lines) id → (first_id times ≤ id) × (id ≤ last_id times)
+  pub span : (id : ℕ) → Contains (ids_of lines) id → (first_id times ≤ id) × (id ≤ last_id times)
   span id c = within_chain times id each (subst (λ (ids : List ℕ). Contains ids id) (same_ids lines) c)
 
   pub is_first : IsFirst f s (first_id times)
@@ -86,6 +86,7 @@ module _ (f : Files) (s : TableSchema) (entries : List Entry) (folder : HasTable
       let at = (are.ids.exact (first_id times)).0 has_first in
       record {
         after_origin = at.0;
+        within = at.1;
         there = snapshot_at f s (first_id times) at.0 at.2;
         none = λ id after below there.
             let top = at.1 in
@@ -182,9 +183,11 @@ found_at a f h x own folder (all_read floors next r lines done is) told =
     let whole = split (IsTold f) t.before t.reads (subst (AreTold f) t.is told) in
     let before = split (IsTold f) l.first (listed_floors l.names ∷ l.rest) (subst (AreTold f) l.is whole.0) in
     let at = read_at f h a.schema r (l.first ++ t.reads) folder lines.schema done t.then_reads (join (IsTold f) l.first t.reads before.0 whole.1) in
-    let consumers = consumers_calls.listed_at f h folder l.then_consumers.0 l.rest l.then_consumers.1 before.1.1 in
-    (at.0, all_at a f h x r.lines l.then_consumers.0 next floors folder at.0 at.1 consumers l.then_consumers.2
-      (subst (λ (names : List (List ℕ)). IsListing floor_folder names f) l.are before.1.0) is)
+    let consumers = consumers_calls.listed_at f h folder l.then_consumers.0 l.rest l.then_consumers.1 before.1.1 in (
+      at.0,
+      all_at a f h x r.lines l.then_consumers.0 next floors folder at.0 at.1 consumers l.then_consumers.2
+          (subst (λ (names : List (List ℕ)). IsListing floor_folder names f) l.are before.1.0) is,
+    )
 
 pub found : (a : Asking) (x : Found) (own : List Event) (first after : StoreView) (f : Files) (h : History) → HasFound a x own → Traces own first after
     → IsAlone first after → HasFiles f first → Folder f h → FindsAlone a f h x first after

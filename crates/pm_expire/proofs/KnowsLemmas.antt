@@ -1,5 +1,5 @@
 -- What an expirer knows of views, and of what is to be removed.
-use Rattle.std.proofs.Common.{◌≡◌, ◌↔◌, inl, inr, ℕ, ◌+◌, ◌<◌, ◌≤◌, nat_lt, List, [], ◌∷◌, Contains, true, false, None, Some, refl, sym, ap, ◌∙◌, subst, arith}
+use Rattle.std.proofs.Common.{◌≡◌, ◌↔◌, inl, inr, ℕ, zero, suc, ◌+◌, ◌<◌, ◌≤◌, nat_lt, List, [], ◌∷◌, ◌++◌, Contains, true, false, None, Some, refl, sym, ap, ◌∙◌, subst, arith}
 use Rattle.std.specs.FinMap as map
 use Rattle.std.specs.List.{AllByRecursion}
 use Rattle.std.proofs.lemmas.Bool.Decides.{nat_tests}
@@ -10,26 +10,29 @@ use Rattle.pm_model_history.specs.History.{IsTableOf}
 use Rattle.pm_model_folder.specs.Changes.{Actor, HavePlainNames, nothing}
 use Rattle.pm_model_folder.specs.Commits.{Names}
 use Rattle.pm_model_folder.specs.Ledger.{Advances, IsKnown, Past, Stands, count_of}
-use Rattle.pm_model_folder.specs.Paths.{consumer_path}
+use Rattle.pm_model_folder.specs.Paths.{consumer_path, snapshot_file, snapshot_path}
 use Rattle.pm_model_folder.proofs.Facts.{some-none, still_there}
 use Rattle.pm_model_folder.proofs.LedgerFacts.{at-table, beside, count-is, known-still}
-use Rattle.pm_model_expiry.specs.Expiry.{HasAnnounced, HasLeft, HaveGoneBetween, IsDropped}
-use Rattle.pm_model_expiry.specs.Removals.{Expiry, KnowsRemovals, removals}
+use Rattle.pm_model_expiry.specs.Expiry.{HasAnnounced, HasLeft, HaveGone, HaveGoneBetween, IsDropped}
+use Rattle.pm_model_expiry.specs.Removals.{Expiry, KnowsRemovals, SnapshotsLeft, floor_paths, from_id, removals, snapshot_paths, with_origin}
 use Rattle.pm_paths.proofs.ListLemmas.{here, more, nowhere}
 use Rattle.pm_remove.specs.Remover.{remove_next}
 use Rattle.pm_expire_paths.specs.Dropping.{Adds, AreDropped, DroppingView, IsSeen}
 use Rattle.pm_expire_paths.specs.Floors.{AreFloorsBelow}
 use Rattle.pm_read_table.specs.Meaning.{IsViewIn, view_origin, view_snapshot}
 use Rattle.pm_read_table.specs.declared.view.View.{View}
+use Rattle.pm_read_table.proofs.Facts.{table_still}
 use Rattle.pm_read_whole.specs.Meaning as whole_meaning
 use Rattle.pm_read_whole.specs.Meaning.{AreNamed}
 use Rattle.pm_read_whole.specs.Whole as whole
 use Rattle.pm_read_whole.specs.declared.phase.Phase as whole_phase
 use Rattle.pm_read_whole.specs.declared.phase.Phase.TheVariants as wholes
+use Rattle.pm_read_expiry.specs.Meaning.{KnowsFound}
+use Rattle.pm_read_expiry.specs.declared.asking.Found.{Found}
 use Rattle.pm_announce.specs.Meaning.{KnowsEnd}
 use Rattle.pm_announce.specs.declared.phase.Announced.{Announced}
 use Rattle.pm_expire.specs.Expirer.{AreNone, AreRemovals, IsRead, expiry_of, view_at, views_of}
-use Rattle.pm_expire.specs.Meaning.{KnowsRemover, KnowsViews}
+use Rattle.pm_expire.specs.Meaning.{KnowsDone, KnowsRemover, KnowsViews}
 use Rattle.pm_expire.specs.declared.phase.Views.{Views}
 
 -- ---- what the law of whole views says
@@ -183,19 +186,66 @@ RemovalsBegin = (x : Expiry) (dropped : List (List ℕ)) (floors : List ℕ) (f 
     → AllByRecursion (IsDropped p x.schema x.end) dropped → AllByRecursion (λ n. n < x.own) floors
     → KnowsRemovals x (removals x dropped floors) f p
 
-pub remover_known : (x : Expiry) (paths : List (List ℕ)) (f : Files) (p : Past) → KnowsRemovals x paths f p → KnowsRemover (remove_next paths) f p
-remover_known x [] f p known = tt
-remover_known x (path ∷ paths) f p known = (x, known)
+-- once no path is left none is below the end
+no_paths : (snapshots others : List (List ℕ)) → [] ≡ snapshots ++ others → snapshots ≡ []
+no_paths [] others none = refl
+no_paths (path ∷ snapshots) others none = cc
+
+none_from : (id count : ℕ) → [] ≡ snapshot_paths id count → count ≡ 0
+none_from id zero none = refl
+none_from id (suc count) none = absurd (let clash : [] ≡ snapshot_path id ∷ snapshot_paths (id + 1) count = none in cc)
+
+all_gone : (f : Files) (p : Past) (x : Expiry) (snapshots : List (List ℕ)) → snapshots ≡ [] → SnapshotsLeft f p x snapshots → HaveGone f x.schema x.end
+all_gone f p x snapshots none (with_origin name count named some sum between is) = absurd (let clash : [] ≡ snapshot_file name ∷ snapshot_paths x.first count = sym none ∙ is in cc)
+all_gone f p x snapshots none (from_id id count low sum gone is) =
+    let zeros : count ≡ 0 = none_from id count (sym none ∙ is) in
+    let end : id ≡ x.end = omega (arith, sum, zeros) in
+    subst (HaveGone f x.schema) end gone
+
+pub all_removed : (x : Expiry) (first last : ℕ) (f : Files) (p : Past) → x.end ≡ first → first ≤ last → IsKnown p last → KnowsRemovals x [] f p
+    → KnowsDone first last f p
+all_removed x first last f p end order newest known =
+    let left = known.left in
+    let gone = all_gone f p x left.snapshots (no_paths left.snapshots (left.dropped ++ floor_paths left.floors) left.is) left.first in
+    record {
+      schema = x.schema;
+      table = known.table;
+      gone = subst (HaveGoneBetween f p x.schema) end
+          (record { within = known.read.announced.within; gone = λ below low high. gone below high });
+      newest = λ some. newest;
+      order = order;
+    }
+
+pub remover_known : (x : Expiry) (first last : ℕ) (paths : List (List ℕ)) (f : Files) (p : Past) → x.end ≡ first → first ≤ last → IsKnown p last
+    → KnowsRemovals x paths f p → KnowsRemover first last (remove_next paths) f p
+remover_known x first last [] f p end order newest known = all_removed x first last f p end order newest known
+remover_known x first last (path ∷ paths) f p end order newest known = (x, end, order, newest, known)
 
 pub removals_known : RemovalsBegin → (a : Announced) (d : DroppingView) (paths : List (List ℕ)) (f : Files) (p : Past) → a.found.first < a.end
-    → KnowsEnd a.found a.end f p → KnowsViews (views_of a d (a.end + 1)) p → AreRemovals a d paths → KnowsRemover (remove_next paths) f p
-removals_known law a d paths f p less end views are =
+    → a.end ≤ a.found.last → KnowsEnd a.found a.end f p → KnowsViews (views_of a d (a.end + 1)) p → AreRemovals a d paths
+    → KnowsRemover a.end a.found.last (remove_next paths) f p
+removals_known law a d paths f p less order end views are =
     let some = end.of.to_announce.some in
     let begun : KnowsRemovals (expiry_of a) (removals (expiry_of a) are.dropped are.floors) f p =
     law (expiry_of a) are.dropped are.floors f p end.of.found.table end.of.plain end.announced (end.left (λ e. omega (arith, e, less))) some less
     (end.of.found.gone some) (all_dropped a d p views less are.dropped are.are_dropped)
     (all_floors a.found.floors.items a.found.end are.floors are.are_floors) in
-    remover_known (expiry_of a) paths f p (subst (λ (xs : List (List ℕ)). KnowsRemovals (expiry_of a) xs f p) (sym are.is) begun)
+    remover_known (expiry_of a) a.end a.found.last paths f p refl order (end.of.found.last (omega (arith, less, order))) (subst (λ (xs : List (List ℕ)). KnowsRemovals (expiry_of a) xs f p) (sym are.is) begun)
+
+-- ---- where no snapshot is to go
+
+pub none_between : (f : Files) (p : Past) (s : TableSchema) (first : ℕ) → (1 ≤ first → HaveGoneBetween f p s first) → HaveGoneBetween f p s first
+none_between f p s zero gone = record { within = omega arith; gone = λ below low high. absurd (omega (arith, low, high)) }
+none_between f p s (suc n) gone = gone (omega arith)
+
+pub found_done : (x : Found) (end : ℕ) (f : Files) (p : Past) → end ≡ x.first → end ≤ x.last → KnowsFound x f p → KnowsDone end x.last f p
+found_done x end f p at order known = record {
+  schema = x.schema;
+  table = known.table;
+  gone = subst (HaveGoneBetween f p x.schema) (sym at) (none_between f p x.schema x.first known.gone);
+  newest = known.last;
+  order = order;
+}
 
 -- ---- where nothing changes
 
@@ -221,4 +271,19 @@ views_still v other f after p q advances known = record {
   kept = λ id path low at.
       let same = advances.same id (known.known id low (omega (arith, at))) in
       subst (λ (g : Files). Contains v.dropping.kept path ↔ Names g v.announced.found.schema id path) (sym same) (known.kept id path low at);
+}
+
+-- and what is known once it is done
+abbrev pub BetweenStays : Type 0
+BetweenStays = (me : Actor) (f after : Files) (p q : Past) (s : TableSchema) (id : ℕ) → Stands f p → Advances me f p after q → IsTableOf s p.history
+    → HaveGoneBetween f p s id → HaveGoneBetween after q s id
+
+pub done_still : BetweenStays → (first last : ℕ) (other : Actor) (f after : Files) (p q : Past) → Stands f p → Advances other f p after q
+    → KnowsDone first last f p → KnowsDone first last after q
+done_still law first last other f after p q stands advances known = record {
+  schema = known.schema;
+  table = table_still other f after p q known.schema advances known.table;
+  gone = law other f after p q known.schema first stands advances known.table known.gone;
+  newest = λ some. known-still other f after p q last advances (known.newest some);
+  order = known.order;
 }

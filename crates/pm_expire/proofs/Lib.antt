@@ -1,10 +1,21 @@
+mod AllCallsLemmas
+mod AnnounceAloneLemmas
 mod AnnouncedLemmas
+mod BesideLemmas
 mod CallLemmas
+mod CauseLemmas
 mod ChainLemmas
 pub mod Facts
 mod FoundLemmas
+mod GivenBackLemmas
+mod ImageLemmas
 mod KeptLemmas
 mod KnowsLemmas
 mod OneEndLemmas
 mod PhaseLemmas
+mod ResumeLemmas
+mod SparesLemmas
 mod TraceLemmas
+mod ViewCauseLemmas
+mod ViewStillLemmas
+mod ViewedLemmas

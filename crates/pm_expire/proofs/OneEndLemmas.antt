@@ -88,7 +88,7 @@ one_snapshot f id other s t same (bytes, at, reads) (bytes2, at2, reads2) =
     let snapshots : Ok s ≡ Ok t = sym reads ∙ ap (snapshot_in id) are ∙ here2.2 in
     cc
 
-one_line : (f : Files) (l k : SnapshotLine) → l.id ≡ k.id → IsLineAt f l → IsLineAt f k → l ≡ k
+pub one_line : (f : Files) (l k : SnapshotLine) → l.id ≡ k.id → IsLineAt f l → IsLineAt f k → l ≡ k
 one_line f l k same (s, at, is) (t, at2, is2) = is ∙ ap line_of (one_snapshot f l.id k.id s t same at at2) ∙ sym is2
 
 same_lines : (f : Files) (ls ks : List SnapshotLine) → ids_of ls ≡ ids_of ks → AllByRecursion (IsLineAt f) ls → AllByRecursion (IsLineAt f) ks → ls ≡ ks

@@ -163,7 +163,7 @@ begins n id some = ((refl, refl), some, (refl, refl))
 
 read_did : (a : Asking) (to : read_phase.Phase) (new : Phase) (own : List Event) → AfterRead to new → reading_trace.Did a to own → Did a new own
 read_did a to new own (reads_on more is) did = subst (λ (m : Phase). Did a m own) (sym is) did
-read_did a to new own (none_goes x at end is) did =
+read_did a to new own (none_goes x at end order is) did =
     let found : reading_trace.HasFound a x own = subst (λ (m : read_phase.Phase). reading_trace.Did a m own) at did in
     let expired : HasExpired a x.end x.last own = kept_all x end refl refl found in
     subst (λ (m : Phase). Did a m own) (sym is) expired
@@ -188,7 +188,7 @@ announce_did a x to new own (none_goes_then n at end is) has =
     let read = announced_of a x n own (subst (λ (m : announce_phase.Phase). HasFound a x (announcing_trace.Did x m) own) at has) in
     let expired : HasExpired a n.end n.found.last own = kept_all_then n end refl refl read in
     subst (λ (m : Phase). Did a m own) (sym is) expired
-announce_did a x to new own (views_first n d at some less none is) has =
+announce_did a x to new own (views_first n d at order less none is) has =
     let read = announced_of a x n own (subst (λ (m : announce_phase.Phase). HasFound a x (announcing_trace.Did x m) own) at has) in
     let views : HasFound a n.found (HasAnnounced n (HasViews n n.found.first d (whole_trace.Did (asked_at n n.found.first) (view_at n.found.schema n.found.first)))) own =
     found_so a n.found (announcing_trace.HasRead n.found n.end) _ own read
@@ -205,12 +205,12 @@ announce_did a x to new own (views_first n d at some less none is) has =
         rest = [];
         count = omega arith;
         viewed = (refl, refl);
-        then_rest = begins n n.found.first some;
+        then_rest = begins n n.found.first order.of.some;
         is = refl;
       };
       is = sym (append-nil rest);
     }) in
-    subst (λ (m : Phase). Did a m own) (sym is) views
+    subst (λ (m : Phase). Did a m own) (sym is) (omega (arith, less), views)
 
 -- the calls of a view that is ready
 abbrev Viewed : Asking → Announced → ℕ → DroppingView → whole_phase.Phase → List Event → Type 0
@@ -223,7 +223,7 @@ added_did a n id d e m new own (views_next below is) ready adds has =
     let views : Viewed a n (id + 1) e (view_at n.found.schema (id + 1)) own =
     found_so a n.found _ _ own has (λ rest announced. announced_so n _ _ rest announced (λ rest viewed.
     more_viewed n id d e m (whole_trace.Did (asked_at n (id + 1)) (view_at n.found.schema (id + 1))) rest viewed ready adds start)) in
-    subst (λ (m : Phase). Did a m own) (sym is) views
+    subst (λ (m : Phase). Did a m own) (sym is) (omega (arith, below), views)
 added_did a n id d e m new own (views_all paths at are is) ready adds has =
     let all : HasFound a n.found (HasAnnounced n (HasAll n (λ q. removing_trace.Did q (removing.remove_next paths)))) own =
     found_so a n.found _ _ own has (λ rest announced. announced_so n _ _ rest announced (λ rest viewed. (
@@ -297,10 +297,10 @@ each_of : (next : Option Call) (P : List (List ℕ) → List Event → Type 0) (
 each_of None P Q so = tt
 each_of (Some call) P Q so = so
 
-view_did : (a : Asking) (v : Views) (to : whole_phase.Phase) (new : Phase) (own : List Event) → AfterView v to new
+view_did : (a : Asking) (v : Views) (to : whole_phase.Phase) (new : Phase) (own : List Event) → AfterView v to new → v.id ≤ v.announced.end
     → Viewed a v.announced v.id v.dropping to own → Did a new own
-view_did a v to new own (views_on more is) has = subst (λ (m : Phase). Did a m own) (sym is) has
-view_did a v to new own (view_read d ready read adds on) has = added_did a v.announced v.id v.dropping d to new own on ready adds has
+view_did a v to new own (views_on more is) within has = subst (λ (m : Phase). Did a m own) (sym is) (within, has)
+view_did a v to new own (view_read d ready read adds on) within has = added_did a v.announced v.id v.dropping d to new own on ready adds has
 
 ready_announced : (m : announce_phase.Phase) → announcing.IsReady m → (n : Announced) × (m ≡ announcers.Announced n)
 ready_announced (announcers.Announced n) ready = (n, refl)
@@ -336,9 +336,9 @@ module _ (law : Joined) (a : Asking) where
   went_on (phases.Announce m) answer new own (to, on, after) (x, has) =
       IfSome_then (announcing.next_call m) (went_announcer x m to answer own on has)
       (λ call did may. announce_did a x to new (own ++ answered call answer ∷ []) after (did may))
-  went_on (phases.View v m) answer new own (to, on, after) has =
+  went_on (phases.View v m) answer new own (to, on, after) (within, has) =
       IfSome_then (whole.next_call m) (went_viewer v.announced v.id v.dropping m to answer own on has)
-      (λ call did may. view_did a v to new (own ++ answered call answer ∷ []) after (did may))
+      (λ call did may. view_did a v to new (own ++ answered call answer ∷ []) after within (did may))
   went_on (phases.Remove first last m) answer new own (to, on, after) (n, end, newest, has) =
       IfSome_then (removing.next_call m)
       (each_of (removing.next_call m) (λ paths. removing_trace.Did paths m)
@@ -375,10 +375,10 @@ module _ (law : Joined) (a : Asking) where
         x,
         found_with a x (announcing_trace.Did x m) (announcing_trace.Shows x refusal) own (answered call answer) has (λ rest did. grows rest did may),
       )))
-  refused_on (phases.View v m) answer refusal own (inl (is, (to, on, ready))) has =
+  refused_on (phases.View v m) answer refusal own (inl (is, (to, on, ready))) (within, has) =
       IfSome_then (whole.next_call m) (went_viewer v.announced v.id v.dropping m to answer own on has)
       (λ call did may. between refusal (own ++ answered call answer ∷ []) is (viewed_then v to ready (did may)))
-  refused_on (phases.View v m) answer refusal own (inr shown) has =
+  refused_on (phases.View v m) answer refusal own (inr shown) (within, has) =
       let asked = asked_at v.announced v.id in
       IfSome_then (whole.next_call m)
       (each_if (whole.next_call m) (whole_trace.Did asked m)
@@ -387,6 +387,7 @@ module _ (law : Joined) (a : Asking) where
       (λ call shows may. (shows may).1)))
       (λ call grows may. inr (inr (inl (
         v,
+        within,
         view_with a v.announced v.id v.dropping (whole_trace.Did asked m) (whole_trace.Shows asked refusal) own (answered call answer) has
             (λ rest did. grows rest did may),
       ))))
@@ -405,7 +406,7 @@ module _ (law : Joined) (a : Asking) where
         x,
         found_with a x (announcing_trace.Did x m) (announcing_trace.Shows x (refusals.StoreFault (path_of call))) own (faulted call) has grows,
       )))
-  failed_on (phases.View v m) own has =
+  failed_on (phases.View v m) own (within, has) =
       let asked = asked_at v.announced v.id in
       IfSome_then (whole.next_call m)
       (each_if (whole.next_call m) (whole_trace.Did asked m)
@@ -413,6 +414,7 @@ module _ (law : Joined) (a : Asking) where
       (λ rest did. IfSome_then (whole.next_call m) ((whole_facts.recounts law asked).failed m wholes.Over rest refl did) (λ call shows. shows.1)))
       (λ call grows. inr (inr (inl (
         v,
+        within,
         view_with a v.announced v.id v.dropping (whole_trace.Did asked m) (whole_trace.Shows asked (refusals.StoreFault (path_of call))) own (faulted call)
             has grows,
       ))))
@@ -436,10 +438,11 @@ module _ (law : Joined) (a : Asking) where
     found_so a x (announcing_trace.Did x m) (announcing_trace.Shows x refusals.Memory) own has
         (λ rest did. ((announcing_facts.recounts x).stopped m announcers.Over rest called refl did).1),
   ))
-  stopped_on (phases.View v m) own called has =
+  stopped_on (phases.View v m) own called (within, has) =
       let asked = asked_at v.announced v.id in
       inr (inr (inl (
         v,
+        within,
         view_so a v.announced v.id v.dropping (whole_trace.Did asked m) (whole_trace.Shows asked refusals.Memory) own has
             (λ rest did. ((whole_facts.recounts law asked).stopped m wholes.Over rest called refl did).1),
       )))

@@ -1,31 +1,39 @@
 -- What an expiry of a folder's files is where nobody else acts: its end, what goes with it, and what each image is.
-use Rattle.std.specs.Prelude.{◌≡◌, ◌↔◌, ℕ, ◌<◌, ◌≤◌, List, [], Contains, Option, None, Some, IsSome}
+use Rattle.std.specs.Prelude.{◌≡◌, ◌↔◌, ◌⊎◌, ℕ, ◌<◌, ◌≤◌, List, [], Contains, Option, None, Some, IsSome}
+use Rattle.std.specs.Prelude.{Result, Ok, Err}
 use Rattle.std.specs.Cmp.Lexicographic.{slice_cmp}
 use Rattle.std.specs.FinMap as map
 use Rattle.std.specs.List.Sorted.{IsStrictlyIncreasing, IsStrictlySortedBy}
 use Rattle.std.specs.Ordering.{nat_cmp}
 use Rattle.pm_store.specs.Files.{Files, IsListing, Puts, carried}
+use Rattle.pm_store.specs.Images.{Extends}
 use Rattle.pm_store.specs.Store.{StoreView}
 use Rattle.pm_store.specs.declared.call.Call.TheVariants as calls
-use Rattle.pm_remove.specs.Meaning.{HasLost}
+use Rattle.pm_values.specs.declared.refusal.Refusal.{Refusal}
+use Rattle.pm_machine.specs.Trace.{Event}
+use Rattle.pm_create.specs.Making.{LeavesFiles}
+use Rattle.pm_remove.specs.Meaning.{AreSame, HasLost}
 use Rattle.pm_schema.specs.declared.schema.TableSchema.{TableSchema}
 use Rattle.pm_consumer_files.specs.declared.lines.NamedConsumer.{NamedConsumer}
+use Rattle.pm_snapshot.specs.Names.{greatest}
 use Rattle.pm_model_folder.specs.Changes.{IsSnapshotPath}
-use Rattle.pm_model_folder.specs.Commits.{Names}
+use Rattle.pm_model_folder.specs.Commits.{Names, Needs}
 use Rattle.pm_model_folder.specs.Ledger.{count_of}
 use Rattle.pm_model_folder.specs.Meaning.{HasSnapshotAt}
-use Rattle.pm_model_folder.specs.Paths.{floor_folder, floor_path}
+use Rattle.pm_model_folder.specs.Paths.{consumer_path, floor_folder, floor_path}
 use Rattle.pm_model_history.specs.History.{History, IsTableOf}
 use Rattle.pm_model_expiry.specs.Removals.{removals}
 use Rattle.pm_expire_end.specs.Expiry.{expire_end_of}
 use Rattle.pm_read_schema.specs.AllCalls.{Stay}
-use Rattle.pm_snapshots.specs.AllCalls.{AreLinesOf}
+use Rattle.pm_snapshots.specs.AllCalls.{AreLinesOf, GoesOnFrom}
 use Rattle.pm_snapshots.specs.declared.line.SnapshotLine.{SnapshotLine}
 use Rattle.pm_consumers.specs.AllCalls.{AreConsumersOf}
 use Rattle.pm_read_expiry.specs.Found.{IsNoneFound}
 use Rattle.pm_read_expiry.specs.Times.{times_of, IsLeastNext}
 use Rattle.pm_read_expiry.specs.declared.asking.Asking.{Asking}
 use Rattle.pm_read_expiry.specs.declared.asking.Found.{Found}
+use Rattle.pm_expire.specs.Trace.{HasExpired, Shows}
+use Rattle.pm_expire.specs.declared.all_calls.Kept.{Kept}
 
 -- ---- its end
 
@@ -42,6 +50,7 @@ pub record IsEndIn (a : Asking) (f : Files) (end : ℕ) : Type 0 where
 -- the least snapshot after the origin
 pub record IsFirst (f : Files) (s : TableSchema) (first : ℕ) : Type 0 where
   pub after_origin : 1 ≤ first
+  pub within : first ≤ greatest
   pub there : HasSnapshotAt f s first
   pub none : (id : ℕ) → 1 ≤ id → id < first → HasSnapshotAt f s id → ⊥
 
@@ -82,13 +91,9 @@ pub record AreRemovalsOf (s : TableSchema) (f : Files) (first end : ℕ) (paths 
 
 -- ---- what it leaves
 
--- no path has another content
-abbrev pub HaveSame : Files → Files → Type 0
-HaveSame f g = (path : List ℕ) → map.get g path ≡ map.get f path
-
 -- each image of a crash: as before; with the floor, in part or whole; or without the first so many of the removes
 pub data IsImageOf (a : Asking) (f g : Files) : Type 0 where
-  as_before : HaveSame f g → IsImageOf a f g
+  as_before : AreSame f g → IsImageOf a f g
   announcing : (first end : ℕ) (found : List ℕ) → HasToGo a f first end → map.get f (floor_path end) ≡ None
       → Puts f (floor_path end) (Some found) g → IsImageOf a f g
   removing : (first end : ℕ) (paths : List (List ℕ)) → HasToGo a f first end → AreRemovalsOf a.schema f first end paths
@@ -97,8 +102,8 @@ pub data IsImageOf (a : Asking) (f g : Files) : Type 0 where
 -- What became of the files, whose newest snapshot has this id, by the two numbers that are printed. None is there but
 -- the origin, and no path changes; or all stay, and no path changes; or some go, and the others stay.
 pub data Becomes (a : Asking) (newest : ℕ) (f g : Files) (first last : ℕ) : Type 0 where
-  none_there : newest ≡ 0 → first ≡ 0 → last ≡ 0 → HaveSame f g → Becomes a newest f g first last
-  all_stay : IsEndIn a f first → IsFirst f a.schema first → last ≡ newest → HaveSame f g
+  none_there : newest ≡ 0 → first ≡ 0 → last ≡ 0 → AreSame f g → Becomes a newest f g first last
+  all_stay : IsEndIn a f first → IsFirst f a.schema first → last ≡ newest → AreSame f g
       → Becomes a newest f g first last
   some_go : (least : ℕ) → HasToGo a f least first → last ≡ newest → HasGivenBack a.schema f first g
       → Becomes a newest f g first last
@@ -122,3 +127,39 @@ pub record KeepsAll (a : Asking) (f : Files) (h : History) (first last : ℕ) (b
   pub files : Stay f before after
   pub table : IsTableOf a.schema h
   pub becomes : Becomes a (count_of h) f f first last
+
+-- Some of the files' snapshots go, and at this path: the file was taken with them; or it is the floor of their end, which
+-- wasn't there.
+abbrev pub ChangesAt : Asking → Files → Files → List ℕ → Type 0
+ChangesAt a f g path = (first end : ℕ) × HasToGo a f first end
+    × (((map.get g path ≡ None) × IsGivenBack a.schema f end path)
+    ⊎ ((map.get f path ≡ None) × (path ≡ floor_path end)))
+
+-- ---- all its calls
+
+-- The calls of an expiry, from those that read the schema on, by its answer: these snapshots are kept, or they show the
+-- refusal.
+abbrev pub DidExpire : Asking → Result Kept Refusal → List Event → Type 0
+DidExpire a (Ok kept) own = HasExpired a kept.first kept.last own
+DidExpire a (Err refusal) own = GoesOnFrom a.schema own × Shows a refusal own
+
+-- what an answer leaves of the files, whose newest snapshot has this id: what became of them; or a refusal leaves what
+-- an image may have
+abbrev pub Leaves : Asking → ℕ → Files → Result Kept Refusal → Files → Type 0
+Leaves a newest f (Ok kept) g = Becomes a newest f g kept.first kept.last
+Leaves a newest f (Err refusal) g = IsImageOf a f g
+
+-- What an expiry does to the files that are there at its first call and stand for this history, where nobody else acts
+-- from then on: what it leaves of them by its answer, and that each image is one of an expiry that was stopped.
+pub record ExpiresFiles (a : Asking) (f : Files) (h : History) (before after : StoreView) (result : Result Kept Refusal)
+    : Type 0 where
+  pub table : IsTableOf a.schema h
+  pub leaves : LeavesFiles (Leaves a (count_of h) f result) after
+  pub images : Extends (IsImageOf a f) before.ops after.ops
+
+-- whoever reads a snapshot that a listing shows, from the end on, finds the same bytes; and each consumer's file is as it
+-- was
+pub record SparesFrom (s : TableSchema) (end : ℕ) (f g : Files) : Type 0 where
+  pub needs : (id : ℕ) (path : List ℕ) → 1 ≤ id → id ≤ greatest → end ≤ id → HasSnapshotAt f s id → Needs f s id path
+      → map.get g path ≡ map.get f path
+  pub consumers : (name : List ℕ) → map.get g (consumer_path name) ≡ map.get f (consumer_path name)

@@ -129,8 +129,8 @@ IsExpirer other = Unit {0}
 -- once what an expiry needs is known: where no snapshot is to go it is done, and else it announces its end
 pub data AfterRead (m : read_phase.Phase) (later : Phase) : Type 0 where
   reads_on : (reading.IsReady m → ⊥) → later ≡ phases.Read m → AfterRead m later
-  none_goes : (x : Found) → m ≡ readers.Ready x → x.end ≡ x.first → later ≡ phases.Done x.end x.last
-      → AfterRead m later
+  none_goes : (x : Found) → m ≡ readers.Ready x → x.end ≡ x.first → x.end ≤ x.last
+      → later ≡ phases.Done x.end x.last → AfterRead m later
   some_goes : (x : Found) → m ≡ readers.Ready x → IsToAnnounce x → x.end ≤ most_paths
       → later ≡ phases.Announce (announcers.Announce x) → AfterRead m later
 
@@ -152,7 +152,7 @@ pub data AfterAnnounce (m : announce_phase.Phase) (later : Phase) : Type 0 where
   announces_on : (announcing.IsReady m → ⊥) → later ≡ phases.Announce m → AfterAnnounce m later
   none_goes_then : (a : Announced) → m ≡ announcers.Announced a → a.end ≡ a.found.first
       → later ≡ phases.Done a.end a.found.last → AfterAnnounce m later
-  views_first : (a : Announced) (d : DroppingView) → m ≡ announcers.Announced a → 1 ≤ a.found.first
+  views_first : (a : Announced) (d : DroppingView) → m ≡ announcers.Announced a → IsAnnounced a
       → a.found.first < a.end → AreNone d → later ≡ view_next a d a.found.first → AfterAnnounce m later
 
 -- what is to be removed once all views were added: the origin and the snapshots below the end, the files that these

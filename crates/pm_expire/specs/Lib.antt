@@ -1,4 +1,5 @@
 pub mod AllCalls
+pub mod Beside
 pub mod Expirer
 pub mod Meaning
 pub mod Trace

@@ -7,7 +7,10 @@ use Rattle.pm_machine.specs.Moves.{IsKept, Moves}
 use Rattle.pm_model_folder.specs.Changes.{Actor, HavePlainNames}
 use Rattle.pm_model_folder.specs.Commits.{Names}
 use Rattle.pm_model_folder.specs.Ledger.{Advances, IsKnown, Past, Stands}
+use Rattle.pm_model_expiry.specs.Expiry.{HaveGoneBetween}
 use Rattle.pm_model_expiry.specs.Removals.{Expiry, KnowsRemovals}
+use Rattle.pm_model_history.specs.History.{IsTableOf}
+use Rattle.pm_schema.specs.declared.schema.TableSchema.{TableSchema}
 use Rattle.pm_remove.specs.declared.phase.Phase as remove_phase
 use Rattle.pm_remove.specs.declared.phase.Phase.TheVariants as removers
 use Rattle.pm_expire_paths.specs.Dropping.{IsSeen}
@@ -61,22 +64,35 @@ pub record KnowsView (v : Views) (m : whole_phase.Phase) (f : Files) (p : Past) 
   pub some : v.announced.found.first < v.announced.end
   pub from : v.announced.found.first ≤ v.id
   pub to : v.id ≤ v.announced.end
+  pub order : v.announced.end ≤ v.announced.found.last
   pub end : KnowsEnd v.announced.found v.announced.end f p
   pub views : KnowsViews v p
   pub reader : whole.Knows m f p
 
--- of what is to be removed each remove may be made
-abbrev pub KnowsRemover : remove_phase.Phase → Files → Past → Type 0
-KnowsRemover (removers.Remove r) f p = (x : Expiry) × KnowsRemovals x (r.next ∷ r.rest) f p
-KnowsRemover other f p = Unit {0}
+-- What is known once it is done, by the two numbers that it answers: no snapshot of the table is there below the first
+-- but the origin, and the last was committed, whether or not it has gone since. Both are 0 where there was none.
+pub record KnowsDone (first last : ℕ) (f : Files) (p : Past) : Type 0 where
+  pub schema : TableSchema
+  pub table : IsTableOf schema p.history
+  pub gone : HaveGoneBetween f p schema first
+  pub newest : 1 ≤ last → IsKnown p last
+  pub order : first ≤ last
+
+-- of what is to be removed each remove may be made, and the first that is kept is the end of that expiry
+abbrev pub KnowsRemover : ℕ → ℕ → remove_phase.Phase → Files → Past → Type 0
+KnowsRemover first last (removers.Remove r) f p =
+    (x : Expiry) × (x.end ≡ first) × (first ≤ last) × IsKnown p last × KnowsRemovals x (r.next ∷ r.rest) f p
+KnowsRemover first last removers.Removed f p = KnowsDone first last f p
+KnowsRemover first last removers.Over f p = Unit {0}
 
 -- what it knows in each phase, whatever others do: what its parts know
 abbrev pub Knows : Phase → Files → Past → Type 0
 Knows (phases.Read m) f p = IsPlainRead m × reading.Knows m f p
 Knows (phases.Announce m) f p = announcing.Knows m f p
 Knows (phases.View v m) f p = KnowsView v m f p
-Knows (phases.Remove first last m) f p = KnowsRemover m f p
-Knows other f p = Unit {0}
+Knows (phases.Remove first last m) f p = KnowsRemover first last m f p
+Knows (phases.Done first last) f p = KnowsDone first last f p
+Knows phases.Over f p = Unit {0}
 
 -- Whoever expires: a step makes one of these changes, or none, and what the expirer knows holds after it.
 abbrev pub ExpirerMoved : Phase → Phase → StoreView → StoreView → Type 0

@@ -1,5 +1,5 @@
 -- An expirer's own calls, and what they show.
-use Rattle.std.specs.Prelude.{◌≡◌, ◌⊎◌, ℕ, ◌+◌, ◌<◌, List, [], ◌∷◌, ◌++◌, length, Result, IfErr}
+use Rattle.std.specs.Prelude.{◌≡◌, ◌⊎◌, ℕ, ◌+◌, ◌<◌, ◌≤◌, List, [], ◌∷◌, ◌++◌, length, Result, IfErr}
 use Rattle.pm_values.specs.declared.refusal.Refusal.{Refusal}
 use Rattle.pm_values.specs.declared.refusal.Refusal.TheVariants as refusals
 use Rattle.pm_store.specs.Store.{StoreView}
@@ -94,13 +94,13 @@ pub data EndsBetween (a : Asking) (own : List Event) : Type 0 where
       → HasFound a v.announced.found (HasAnnounced v.announced
       (HasViews v.announced v.id v.dropping (whole.Did (asked_at v.announced v.id) m))) own → EndsBetween a own
 
--- what the calls of its parts show
+-- what the calls of its parts show: no view is read of a snapshot above the end
 abbrev pub ShowsOfAnnouncer : Asking → Refusal → List Event → Type 0
 ShowsOfAnnouncer a refusal own = (x : Found) × HasFound a x (announcing.Shows x refusal) own
 
 abbrev pub ShowsOfView : Asking → Refusal → List Event → Type 0
 ShowsOfView a refusal own =
-    (v : Views) × HasFound a v.announced.found (HasAnnounced v.announced
+    (v : Views) × (v.id ≤ v.announced.end) × HasFound a v.announced.found (HasAnnounced v.announced
     (HasViews v.announced v.id v.dropping (whole.Shows (asked_at v.announced v.id) refusal))) own
 
 abbrev pub ShowsOfRemover : Asking → Refusal → List Event → Type 0
@@ -119,7 +119,7 @@ abbrev pub Did : Asking → Phase → List Event → Type 0
 Did a (phases.Read m) own = reading.Did a m own
 Did a (phases.Announce m) own = (x : Found) × HasFound a x (announcing.Did x m) own
 Did a (phases.View v m) own =
-    HasFound a v.announced.found (HasAnnounced v.announced
+    (v.id ≤ v.announced.end) × HasFound a v.announced.found (HasAnnounced v.announced
     (HasViews v.announced v.id v.dropping (whole.Did (asked_at v.announced v.id) m))) own
 Did a (phases.Remove first last m) own =
     (n : Announced) × (first ≡ n.end) × (last ≡ n.found.last)

@@ -1,12 +1,12 @@
 //! Laws of expirers. Each holds with no call but of the laws of crates below.
 
-ghost use Rattle.std.specs.Prelude.{◌≡◌, ◌≢◌, ℕ, ◌≤◌, ℤ, List, Option, Some, IsSome};
+ghost use Rattle.std.specs.Prelude.{◌≡◌, ◌≢◌, ◌⊎◌, ℕ, ◌<◌, ◌≤◌, ◌≤ℤ◌, ℤ, List, Option, Some, IsSome, Result, Err};
 ghost use Rattle.std.specs.FinMap as finite;
 ghost use Rattle.pm_model_folder.specs.Paths.{floor_path};
 ghost use Rattle.pm_machine.specs.Moves.{Sound};
 ghost use Rattle.pm_machine.specs.Running.{Refuses, Stops};
 ghost use Rattle.pm_machine.specs.Trace.{Event, Recounts, Traces};
-ghost use Rattle.pm_model_folder.specs.Changes.{Actor};
+ghost use Rattle.pm_model_folder.specs.Changes.{Actor, HavePlainNames};
 ghost use Rattle.pm_model_history.specs.History.{Entry, History, table};
 ghost use Rattle.pm_model_folder.specs.Folder.{Folder};
 ghost use Rattle.pm_model_folder.specs.Ledger.{Advances, Past, Stands};
@@ -25,15 +25,25 @@ ghost use Rattle.pm_store.specs.Images.{MayLeave};
 ghost use Rattle.pm_store.specs.Store.{StoreView, IsAlone};
 ghost use Rattle.pm_read_schema.specs.AllCalls.{HasFiles};
 ghost use Rattle.pm_read_expiry.specs.declared.asking.Asking.{Asking};
-ghost use Rattle.pm_expire.specs.AllCalls.{announced, FindsAlone, IsEndIn, KeepsAll};
+ghost use Rattle.pm_expire.specs.AllCalls.{announced, AreRemovalsOf, ChangesAt, DidExpire, ExpiresFiles, FindsAlone};
+ghost use Rattle.pm_expire.specs.AllCalls.{HasGivenBack, HasToGo, IsEndIn, IsFirst, IsImageOf, KeepsAll, SparesFrom};
 ghost use Rattle.pm_expire.specs.Expirer.{next_call, Goes, Shown};
 ghost use Rattle.pm_expire.specs.Meaning.{Knows, KnowsBeside, Makes, MakesBeside, StandsBeside};
 ghost use Rattle.pm_expire.specs.Trace.{Did, Shows};
+ghost use Rattle.pm_expire_end.specs.Expiry.{KeepsMore};
+ghost use Rattle.pm_remove.specs.Meaning.{HasLost, IsWithout};
+ghost use Rattle.pm_snapshot.specs.Names.{greatest};
+ghost use Rattle.pm_read_expiry.specs.Found.{IsAsking};
+ghost use Rattle.pm_values.specs.declared.refusal.Refusal.{Refusal};
+ghost use Rattle.pm_values.specs.declared.refusal.Refusal.TheVariants as refusals;
+ghost use Rattle.pm_read_latest.specs.AllCalls.{IsCaused};
+ghost use Rattle.pm_expire.specs.declared.all_calls.Kept.{Kept};
 ghost use Rattle.pm_expire.specs.declared.phase.Phase.{Phase};
 ghost use Rattle.pm_expire.specs.declared.phase.Phase.TheVariants as phases;
 
 use pm_consumers::listed_law;
 use pm_manifest::{ManifestMeta, joined_law};
+use pm_model_contents::one_contents_law;
 use pm_model_expiry::{announces_law, reads_law, removes_law};
 use pm_model_folder::past_law;
 use pm_read_whole::paths_law;
@@ -129,3 +139,74 @@ pub fn announced_law()
         → AreConsumersOf (announced f end) consumers → AreConsumersOf f consumers }
     ensures end { (a : Asking) (f : Files) (floor end : ℕ) → IsEndIn a (announced f floor) end → IsEndIn a f end }
 {}
+
+/// Once all were removed that were to be, all that goes with the snapshots below the end is gone, and nothing else.
+pub fn given_back_law()
+    ensures { (f : Files) (s : TableSchema) (entries : List Entry) (first end : ℕ) (paths : List (List ℕ)) (g : Files)
+        → Folder f (table s entries) → IsFirst f s first → first < end → end ≤ greatest
+        → AreRemovalsOf s f first end paths → IsWithout (announced f end) paths g → HasGivenBack s f end g }
+{}
+
+/// Nobody who reads a snapshot from the end on, or a consumer, finds other bytes than before.
+pub fn spares_law()
+    ensures { (f : Files) (s : TableSchema) (entries : List Entry) (end : ℕ) (g : Files) → Folder f (table s entries)
+        → HavePlainNames s → HasGivenBack s f end g → SparesFrom s end f g }
+{}
+
+/// Nor does anybody in an image, where the first so many were removed of what was to be.
+pub fn image_spares_law()
+    ensures { (f : Files) (s : TableSchema) (entries : List Entry) (first end : ℕ) (paths : List (List ℕ)) (g : Files)
+        → Folder f (table s entries) → HavePlainNames s → IsFirst f s first → first < end
+        → AreRemovalsOf s f first end paths → HasLost (announced f end) paths g → SparesFrom s end f g }
+{}
+
+/// An image of an expiry is another at a path only where the expiry takes the file there with snapshots, or makes its
+/// floor.
+pub fn image_law()
+    ensures { (a : Asking) (f g : Files) (path : List ℕ) → IsImageOf a f g
+        → (finite.get g path ≡ finite.get f path) ⊎ ChangesAt a f g path }
+{}
+
+/// What a stopped expiry left of snapshots goes with the next one: asked to keep no more, at no earlier moment, its end
+/// isn't lower.
+pub fn resumes_law()
+    ensures { (a later : Asking) (f g : Files) (s : TableSchema) (entries : List Entry) (first end other : ℕ)
+        (paths : List (List ℕ)) → 1 ≤ a.keep.min → KeepsMore later.keep a.keep → a.now ≤ℤ later.now → a.schema ≡ s
+        → HavePlainNames s → Folder f (table s entries) → Folder g (table s entries) → HasToGo a f first end
+        → AreRemovalsOf s f first end paths → HasLost (announced f end) paths g → IsEndIn later g other
+        → end ≤ other }
+{
+    pm_expire_end::end_law();
+    pm_expire_end::more_law();
+    pm_expire_end::one_end_law();
+}
+
+/// What all calls of an expiry do to the files, by its answer, where nobody else acts from the first one on.
+pub fn all_calls_law()
+    ensures { (a : Asking) (result : Result Kept Refusal) (own : List Event) (before after : StoreView) (f : Files)
+        (h : History) → IsAsking a → HavePlainNames a.schema → DidExpire a result own → Traces own before after
+        → IsAlone before after → HasFiles f before → Folder f h → ExpiresFiles a f h before after result }
+{
+    given_back_law();
+    one_contents_law();
+    pm_expire_end::end_law();
+    pm_model_folder::kept_law();
+    pm_remove::alone_law();
+}
+
+/// Where nobody else acts a refusal comes of memory or of a fault that was counted alone: no file is damaged, none was
+/// lost, and no snapshot has gone that was listed.
+pub fn causes_law()
+    ensures { (a : Asking) (refusal : Refusal) (own : List Event) (before after : StoreView) (f : Files) (h : History)
+        → IsAsking a → HavePlainNames a.schema → DidExpire a (Err refusal) own → Traces own before after
+        → IsAlone before after → HasFiles f before → Folder f h → IsCaused before after refusal }
+{
+    given_back_law();
+    joined_law();
+    one_contents_law();
+    one_reading_law::<ManifestMeta>();
+    one_reading_law::<pm_manifest::Entry>();
+    pm_expire_end::end_law();
+    pm_model_folder::kept_law();
+    pm_remove::alone_law();
+}

@@ -15,13 +15,18 @@
 #![tactic(auto)]
 
 mod after;
+mod all_calls;
 mod expirer;
 mod laws;
 mod machine;
 mod phase;
 mod views;
 
+pub use all_calls::{Kept, expire_table};
 pub use expirer::{ExpireStep, Expirer, expirer_of, step_expirer};
-pub use laws::{again_law, announced_law, chain_law, found_law, images_law, kept_law, known_law};
-pub use laws::{one_end_law, recounts_law, sound_law};
+pub use laws::{
+    again_law, all_calls_law, announced_law, causes_law, chain_law, found_law, given_back_law,
+    image_law, image_spares_law, images_law, kept_law, known_law, one_end_law, recounts_law,
+    resumes_law, sound_law, spares_law,
+};
 pub use phase::{Phase, Views};

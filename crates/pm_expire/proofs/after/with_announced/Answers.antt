@@ -6,7 +6,7 @@ pub returns-in-Ok-clause-goes : goal.returns-in-Ok-clause-goes
 returns-in-Ok-clause-goes c =
     let a = c.into_announced-announced.result in
     let less : a.found.first < a.end = omega arith in
-    views_first a c.new.result c.into_announced-announced.ensures.announced c.into_announced-announced.ensures.in_order.of.some less
+    views_first a c.new.result c.into_announced-announced.ensures.announced c.into_announced-announced.ensures.in_order less
     (record { kept = c.new.ensures.kept; gone = c.new.ensures.gone }) c.in-Ok.ensures.is
 
 pub returns-else-announced-clause-goes : goal.returns-else-announced-clause-goes

@@ -15,4 +15,4 @@ returns-then-found-clause-goes c =
 pub returns-else-found-clause-goes : goal.returns-else-found-clause-goes
 returns-else-found-clause-goes c =
     let low = c.into_found-found.ensures.in_order.first in
-    none_goes c.into_found-found.result c.into_found-found.ensures.found (omega (arith, low)) refl
+    none_goes c.into_found-found.result c.into_found-found.ensures.found (omega (arith, low)) c.into_found-found.ensures.in_order.last refl

@@ -8,4 +8,5 @@ returns c =
       found = c.known_law-3.ensures;
       viewed = c.known_law-4.ensures;
       removals = c.known_law-2.ensures.removals;
+      between = c.known_law-2.ensures.between;
     })
