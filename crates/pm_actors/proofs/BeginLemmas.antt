@@ -37,7 +37,9 @@ use Rattle.pm_move_consumer.specs.MoverMeaning as mover
 use Rattle.pm_move_consumer.specs.MoverMeaning.{Move}
 use Rattle.pm_move_consumer.specs.declared.drop_phase.DropPhase as dropping
 use Rattle.pm_move_consumer.specs.declared.move_phase.MovePhase as moving
-use Rattle.pm_actors.specs.World.{AllKnow, Begins, BeginsCommit, BeginsDrop, BeginsFollow, BeginsMove, BeginsRegister, Followed, IsWorld, KeepsActor, Knows, KnowsFollowed, MayBegin, MayFollow, MayJoin, Worker, commits, creates, drops, finds, follows, lists, moves, registers, scans, waits}
+use Rattle.pm_expire.specs.Meaning as expirer
+use Rattle.pm_expire.specs.declared.phase.Phase as expiring
+use Rattle.pm_actors.specs.World.{AllKnow, Begins, BeginsCommit, BeginsDrop, BeginsExpire, BeginsFollow, BeginsMove, BeginsRegister, Followed, IsWorld, KeepsActor, Knows, KnowsFollowed, MayBegin, MayFollow, MayJoin, Worker, commits, creates, drops, expires, finds, follows, lists, moves, registers, scans, waits}
 use Rattle.pm_actors.proofs.WorldLemmas.{replaced}
 
 -- what the law of a folder that is found says
@@ -100,6 +102,9 @@ module _ (f : Files) (p : Past) where
   drop_begins : (d : Drop) (phase : dropping.DropPhase) → BeginsDrop p.history d phase → dropper.Knows d phase f p
   drop_begins d phase begins = subst (λ (phase : dropping.DropPhase). dropper.Knows d phase f p) (sym begins.is) (begins.plain, refl, begins.table)
 
+  expire_begins : (m : expiring.Phase) → BeginsExpire p.history m → expirer.Knows m f p
+  expire_begins m begins = subst (λ (m : expiring.Phase). expirer.Knows m f p) (sym begins.is) (begins.plain, (refl, begins.table))
+
   pub joined : (w : Worker) → MayJoin p w → Knows w f p
   joined (waits me) named = named
   joined (creates t m) (is, left, other) = creator_begins t m is left other
@@ -112,6 +117,7 @@ module _ (f : Files) (p : Past) where
   joined (registers me r m) begins = register_begins me r m begins
   joined (moves m phase) begins = move_begins m phase begins
   joined (drops d phase) begins = drop_begins d phase begins
+  joined (expires me m) begins = expire_begins m begins
 
 -- who may begin where of its actor more is asked may begin where less is
 begins_by : (P Q : Actor → Type 0) (h : History) → ((me : Actor) → P me → Q me) → (w : Worker) → Begins P h w → Begins Q h w
@@ -124,6 +130,7 @@ begins_by P Q h more (follows me x m) may = may
 begins_by P Q h more (registers me r m) may = may
 begins_by P Q h more (moves m phase) may = may
 begins_by P Q h more (drops d phase) may = may
+begins_by P Q h more (expires me m) may = may
 begins_by P Q h more (commits e m) may = record {
   begun = may.begun;
   schema = may.schema;

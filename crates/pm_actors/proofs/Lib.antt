@@ -1,3 +1,4 @@
 mod BeginLemmas
 mod FollowLemmas
+mod RegisterLemmas
 mod WorldLemmas

@@ -39,7 +39,14 @@ use Rattle.pm_move_consumer.specs.MoverMeaning as mover
 use Rattle.pm_move_consumer.specs.MoverMeaning.{Move}
 use Rattle.pm_move_consumer.specs.declared.drop_phase.DropPhase as dropping
 use Rattle.pm_move_consumer.specs.declared.move_phase.MovePhase as moving
-use Rattle.pm_actors.specs.World.{AllKnow, AreAllApart, AreApart, Differ, Followed, IsWorld, KeepsActor, Knows, KnowsFollowed, Leaves, Worker, actor_of, commits, creates, drops, finds, follows, lists, moves, registers, scans, waits}
+use Rattle.pm_remove.specs.declared.phase.Phase.TheVariants as removers
+use Rattle.pm_announce.specs.Meaning as announcing
+use Rattle.pm_announce.specs.declared.phase.Phase as announce_phase
+use Rattle.pm_announce.specs.declared.phase.Phase.TheVariants as announcers
+use Rattle.pm_expire.specs.Meaning as expirer
+use Rattle.pm_expire.specs.declared.phase.Phase as expiring
+use Rattle.pm_expire.specs.declared.phase.Phase.TheVariants as expirers
+use Rattle.pm_actors.specs.World.{AllKnow, AreAllApart, AreApart, Differ, Followed, IsWorld, KeepsActor, Knows, KnowsFollowed, Leaves, Worker, actor_of, commits, creates, drops, expires, finds, follows, lists, moves, registers, scans, waits}
 
 -- what the laws of the crates below say
 pub record KnownLaws : Type 0 where
@@ -67,6 +74,8 @@ pub record KnownLaws : Type 0 where
       → mover.Knows m phase f p → mover.Knows m phase after q
   pub drops : (d : Drop) (phase : dropping.DropPhase) (other : Actor) (f after : Files) (p q : Past) → Stands f p → Advances other f p after q
       → dropper.Knows d phase f p → dropper.Knows d phase after q
+  pub expires : (m : expiring.Phase) (other : Actor) (f after : Files) (p q : Past) → Stands f p → Advances other f p after q
+      → expirer.Knows m f p → expirer.Knows m after q
 
 -- ---- who steps
 
@@ -78,6 +87,23 @@ commit_steps : (e : Entry) (o : Option OwnView) (f after : Files) (p q : Past) �
     → (me : Actor) × (option_map owner.actor_of o ≡ Some me) × Advances me f p after q
 commit_steps e None f after p q makes = absurd makes
 commit_steps e (Some o) f after p q makes = (owner.actor_of o, refl, makes.advances)
+
+-- the floor of an expirer appears, or a path goes, or nothing is changed
+announce_steps : KnownLaws → (me : Actor) (m : announce_phase.Phase) (f after : Files) (p q : Past) → announcing.Makes me m f p after q → Advances me f p after q
+announce_steps laws me (announcers.Announce x) f after p q makes = makes.advances
+announce_steps laws me (announcers.Consumers x c) f after p q kept = laws.same me f after p q kept
+announce_steps laws me (announcers.Announced a) f after p q kept = laws.same me f after p q kept
+announce_steps laws me announcers.Over f after p q kept = laws.same me f after p q kept
+
+expire_steps : KnownLaws → (me : Actor) (m : expiring.Phase) (f after : Files) (p q : Past) → expirer.Makes me m f p after q → Advances me f p after q
+expire_steps laws me (expirers.Read m) f after p q kept = laws.same me f after p q kept
+expire_steps laws me (expirers.Announce m) f after p q makes = announce_steps laws me m f after p q makes
+expire_steps laws me (expirers.View v m) f after p q kept = laws.same me f after p q kept
+expire_steps laws me (expirers.Remove first last (removers.Remove r)) f after p q makes = makes.advances
+expire_steps laws me (expirers.Remove first last removers.Removed) f after p q kept = laws.same me f after p q kept
+expire_steps laws me (expirers.Remove first last removers.Over) f after p q kept = laws.same me f after p q kept
+expire_steps laws me (expirers.Done first last) f after p q kept = laws.same me f after p q kept
+expire_steps laws me expirers.Over f after p q kept = laws.same me f after p q kept
 
 steps : KnownLaws → (a : Worker) (f after : Files) (p q : Past) → Leaves a f p after q → Steps a f p after q
 steps laws (waits me) f after p q kept = (me, refl, laws.same me f after p q kept)
@@ -92,6 +118,7 @@ steps laws (moves m phase) f after p q (inl kept) = (m.me, refl, laws.same m.me 
 steps laws (moves m phase) f after p q (inr past) = (m.me, refl, past.advances)
 steps laws (drops d phase) f after p q (inl kept) = (d.me, refl, laws.same d.me f after p q kept)
 steps laws (drops d phase) f after p q (inr gone) = (d.me, refl, gone.advances)
+steps laws (expires me m) f after p q makes = (me, refl, expire_steps laws me m f after p q makes)
 
 -- ---- who knows
 
@@ -157,6 +184,7 @@ knows_still laws (registers other r m) me f after p q differ stands advances kno
     laws.registers other me r m f after p q stands advances (followers_apart me other differ) known
 knows_still laws (moves m phase) me f after p q differ stands advances known = laws.moves m phase me f after p q stands advances known
 knows_still laws (drops d phase) me f after p q differ stands advances known = laws.drops d phase me f after p q stands advances known
+knows_still laws (expires other m) me f after p q differ stands advances known = laws.expires m me f after p q stands advances known
 
 apart_from : (a b : Worker) (me : Actor) → actor_of a ≡ Some me → AreApart a b → IfSome (actor_of b) (λ other. Differ me other)
 apart_from a b me is apart =

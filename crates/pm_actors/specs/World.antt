@@ -32,6 +32,12 @@ use Rattle.pm_read_frame.specs.Frames.{AreFramesFrom}
 use Rattle.pm_read_frame.specs.Meaning as frame_reader
 use Rattle.pm_read_frame.specs.declared.phase.Phase as following
 use Rattle.pm_read_frame.specs.declared.phase.Phase.TheVariants as followers
+use Rattle.pm_remove.specs.declared.phase.Phase.TheVariants as removers
+use Rattle.pm_read_expiry.specs.declared.asking.Asking.{Asking}
+use Rattle.pm_read_expiry.specs.declared.phase.Phase.TheVariants as expiry_readers
+use Rattle.pm_expire.specs.Meaning as expirer
+use Rattle.pm_expire.specs.declared.phase.Phase as expiring
+use Rattle.pm_expire.specs.declared.phase.Phase.TheVariants as expirers
 use Rattle.pm_made.specs.Intent.{Means}
 use Rattle.pm_commit.specs.AllCalls.{NamesNone}
 use Rattle.pm_commit.specs.Committer.{IsCommitter}
@@ -86,6 +92,7 @@ pub data Worker : Type 0 where
   registers : Actor → Registering → registering.Phase → Worker
   moves : Move → moving.MovePhase → Worker
   drops : Drop → dropping.DropPhase → Worker
+  expires : Actor → expiring.Phase → Worker
 
 -- who runs it; of a commit that is over nobody
 abbrev pub actor_of : Worker → Option Actor
@@ -99,6 +106,7 @@ actor_of (commits e m) = option_map owner.actor_of (commit.own_in m)
 actor_of (registers me r m) = Some me
 actor_of (moves m phase) = Some m.me
 actor_of (drops d phase) = Some d.me
+actor_of (expires me m) = Some me
 
 -- the kinds of change that it may make
 abbrev pub Leaves : Worker → Files → Past → Files → Past → Type 0
@@ -112,6 +120,7 @@ Leaves (commits e m) f p after later = commit.MakesEntry e m f p after later
 Leaves (registers me r m) f p after later = registrar.RegistersAt me r m f p after later
 Leaves (moves m phase) f p after later = MayMovePast m f p after later
 Leaves (drops d phase) f p after later = MayDrop d f p after later
+Leaves (expires me m) f p after later = expirer.Makes me m f p after later
 
 -- What is known of a following: its table is the history's, all snapshots up to the newest that was listed were
 -- committed, and what was read so far are frames from its start on.
@@ -135,6 +144,7 @@ Knows (commits e m) f p = commit.Knows e m f p
 Knows (registers me r m) f p = registrar.Knows me r m f p
 Knows (moves m phase) f p = mover.Knows m phase f p
 Knows (drops d phase) f p = dropper.Knows d phase f p
+Knows (expires me m) f p = expirer.Knows m f p
 
 abbrev pub AllKnow : List Worker → Files → Past → Type 0
 AllKnow workers f p = AllByRecursion (λ w. Knows w f p) workers
@@ -215,6 +225,13 @@ pub record BeginsDrop (h : History) (d : Drop) (phase : dropping.DropPhase) : Ty
   pub plain : IsPlain d.name
   pub table : HasPlainTable h
 
+-- what an expirer begins with: a table whose names lead to no file of a consumer, nor to a floor
+pub record BeginsExpire (h : History) (m : expiring.Phase) : Type 0 where
+  pub asking : Asking
+  pub is : m ≡ expirers.Read (expiry_readers.Snapshots asking (listers.List asking.schema))
+  pub table : IsTableOf asking.schema h
+  pub plain : HavePlainNames asking.schema
+
 -- A machine has made no call on a table with the history: who waits is one that named nothing, a creator's origin isn't
 -- that table's, a lister has yet to read the schema or has read it, and any other has read it.
 abbrev pub Begins : (Actor → Type 0) → History → Worker → Type 0
@@ -230,6 +247,7 @@ Begins Named h (commits e m) = BeginsCommit Named h e m
 Begins Named h (registers me r m) = BeginsRegister h r m
 Begins Named h (moves m phase) = BeginsMove h m phase
 Begins Named h (drops d phase) = BeginsDrop h d phase
+Begins Named h (expires me m) = BeginsExpire h m
 
 -- in a folder that is found: no snapshot that is there names a file of a committer
 abbrev pub MayBegin : Files → History → Worker → Type 0
@@ -242,3 +260,12 @@ MayJoin p w = Begins (λ me. HasNamedNone me p) p.history w
 -- so it may in whatever past the operations' files stand for, run by one who waited
 abbrev pub MayFollow : Actor → Worker → List Op → Type 0
 MayFollow me w ops = (p : Past) → Stands (files_after ops) p → Begins (λ other. other ≡ me) p.history w
+
+-- ---- an expiry beside who registers
+
+-- the end of an expiry that has read the consumers again or is done: the first snapshot that it keeps
+abbrev pub HasEnd : expiring.Phase → ℕ → Type 0
+HasEnd (expirers.View v m) end = end ≡ v.announced.end
+HasEnd (expirers.Remove first last (removers.Remove r)) end = end ≡ first
+HasEnd (expirers.Done first last) end = end ≡ first
+HasEnd other end = ⊥

@@ -1,13 +1,16 @@
 //! Laws of machines beside each other. Each holds with no call but of the laws of crates below.
 
-ghost use Rattle.std.specs.Prelude.{◌≡◌, ℕ, ◌+◌, ◌<◌, ◌≤◌, List, [], ◌∷◌, ◌++◌, length, Vec};
+ghost use Rattle.std.specs.Prelude.{◌≡◌, ◌⊎◌, ℕ, ◌+◌, ◌<◌, ◌≤◌, List, [], ◌∷◌, ◌++◌, length, Vec};
 ghost use Rattle.std.specs.Global.{Global};
 ghost use Rattle.std.specs.List.{AllByRecursion};
 ghost use Rattle.pm_actors.specs.World.{AllKnow, AreApart, IsWorld, KeepsActor, Knows, Leaves, MayBegin, MayFollow};
 ghost use Rattle.pm_actors.specs.World.{Followed, MayJoin, Worker, finds, follow_from, follows, reader_at, waits};
-ghost use Rattle.pm_actors.specs.World.{moves, with_frame};
+ghost use Rattle.pm_actors.specs.World.{expires, moves, registers, with_frame, HasEnd};
+ghost use Rattle.pm_expire.specs.declared.phase.Phase.{Phase as ExpirePhase};
 ghost use Rattle.pm_machine.specs.Moves.{Keeps, Lasts};
+ghost use Rattle.pm_model_consumers.specs.Changes.{HasLost};
 ghost use Rattle.pm_model_folder.specs.Changes.{Actor};
+ghost use Rattle.pm_model_folder.specs.Consumers.{follower_of};
 ghost use Rattle.pm_model_folder.specs.Folder.{Folder};
 ghost use Rattle.pm_model_folder.specs.Ledger.{Past, Stands};
 ghost use Rattle.pm_model_history.specs.History.{History};
@@ -16,13 +19,16 @@ ghost use Rattle.pm_move_consumer.specs.MoverMeaning.{Move};
 ghost use Rattle.pm_read_frame.specs.Meaning.{HasOneLog};
 ghost use Rattle.pm_read_frame.specs.declared.phase.Phase.TheVariants as followers;
 ghost use Rattle.pm_read_latest.specs.declared.phase.Phase.TheVariants as finders;
+ghost use Rattle.pm_register.specs.Registrar.{Registering};
+ghost use Rattle.pm_register.specs.declared.phase.Phase.TheVariants as registrars;
+ghost use Rattle.pm_register.specs.declared.phase.Registration.{Registration};
 ghost use Rattle.pm_schema.specs.declared.schema.TableSchema.{TableSchema};
 ghost use Rattle.pm_store.specs.Files.{Files, files_after};
 ghost use Rattle.pm_store.specs.Store.{own_op};
 ghost use Rattle.pm_store.specs.declared.call.Effect.{Effect};
 ghost use Rattle.pm_store.specs.declared.call.Op.{Op};
 
-use pm_model_folder::{found_law, goes_on_law, own_law, past_law, unnamed_law};
+use pm_model_folder::{consumers_law, found_law, goes_on_law, own_law, past_law, unnamed_law};
 use pm_read_frame::frames_law;
 use pm_read_schema::nothing_law;
 
@@ -62,6 +68,7 @@ pub fn others_law()
     pm_commit::known_law();
     pm_register::known_law();
     pm_move_consumer::known_law();
+    pm_expire::known_law();
 }
 
 /// A step of one of them leads from a world of them to one with the machine as it is then in its place, which the same
@@ -110,4 +117,17 @@ pub fn stops_law()
         → IsWorld (before ++ a ∷ later) ops → IsWorld (before ++ later) (ops ++ own_op op.call effect ∷ []) }
 {
     others_law();
+}
+
+/// A follower may register while a table is expired. Once it has listed the floors, and the expirer has read the
+/// consumers again or is done, the first snapshot that the expirer keeps is at most the number that the follower wrote.
+/// For the expirer read that number behind its floor, or the follower listed that floor. Or somebody else touched the
+/// file since the follower wrote it.
+pub fn registering_law()
+    ensures { (other me : Actor) (m : ExpirePhase) (end : ℕ) (r : Registering) (g : Registration) (f : Files) (p : Past)
+        → Stands f p → Knows (expires other m) f p → HasEnd m end
+        → Knows (registers me r (registrars.Settle g)) f p
+        → (end ≤ r.next) ⊎ HasLost (follower_of me) (p.claims r.name) }
+{
+    consumers_law();
 }

@@ -19,5 +19,6 @@ returns c =
       registers = c.known_law-7.ensures;
       moves = c.known_law-8.ensures.moves;
       drops = c.known_law-8.ensures.drops;
+      expires = c.known_law-9.ensures;
     } in
     others_know laws
