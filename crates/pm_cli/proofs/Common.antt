@@ -1,5 +1,6 @@
 -- Of files that a store leaves, and of what is known of an execution.
 use Rattle.std.proofs.Common.{◌≡◌, ◌≢◌, ◌≤◌, ◌+◌, ℕ, suc, nat_lt, Bool, true, false, if◌then◌else◌, List, [], ◌∷◌, ◌++◌, length, Option, None, Some, IsSomeAnd, ◌==◌, ◌⊎◌, codes, decimal, inl, inr, refl, sym, subst, ap, ◌∙◌, length-append, take_all, arith}
+use Rattle.std.specs.List.{AllByRecursion}
 use Rattle.std.specs.Option.{option_or}
 use Rattle.std.proofs.lemmas.Bool.Decides.{nat_tests}
 use Rattle.pm_values.specs.declared.refusal.Refusal.{Refusal}
@@ -12,15 +13,19 @@ use Rattle.pm_store.proofs.ImageLaws.{Extends-weaker}
 use Rattle.pm_model_history.specs.History.{Entry, History, no_table, table}
 use Rattle.pm_schema.specs.declared.schema.TableSchema.{TableSchema}
 use Rattle.pm_snapshot.specs.Names.{greatest}
-use Rattle.pm_model_folder.specs.Changes.{Actor, origin_name}
+use Rattle.pm_model_folder.specs.Changes.{Actor, HavePlainNames, IsPlain, origin_name}
 use Rattle.pm_model_folder.specs.Folder.{HasTable, HaveSettled, KeepsConsumers}
 use Rattle.pm_create.specs.Making.{LeavesFiles}
-use Rattle.pm_draft.specs.Built.{unbuilt, unbuilt_bucket, unbuilt_partition}
+use Rattle.pm_draft.specs.Built.{IsBuilt, unbuilt, unbuilt_bucket, unbuilt_partition}
 use Rattle.pm_words.specs.declared.command.Command.{Command}
 use Rattle.pm_command.specs.Outside.{actor}
 use Rattle.pm_command.specs.declared.start.Start.{Start}
-use Rattle.pm_cli.specs.Promise.{Does, Execution, HasMade, MayMake, StandsForOthers, commits, compacts, consumes, creates, drops, follows, found_by, has_already, lists, lists_consumers, rests, scans, takes_none}
+use Rattle.pm_cli.specs.Promise.{Does, Execution, HasMade, MayMake, StandsForOthers, commits, compacts, consumes, creates, drops, follows, found_by, has_already, expires, expires_none, lists, lists_consumers, rests, scans, takes_none}
 use Rattle.pm_cli.specs.Start.{HaveOtherNames, IsNew, LeavesOut, snapshot_made}
+
+-- no column of a table that is built cuts it in parts, so none has a name that isn't plain
+pub plain_names : (s : TableSchema) → IsBuilt s → HavePlainNames s
+plain_names s built = subst (AllByRecursion IsPlain) (sym built.partition) tt
 
 -- the execution with this command in its place
 abbrev pub with_command : Command → Execution → Execution
@@ -150,6 +155,8 @@ later_settled start bytes found command h later text f names (lists_consumers s 
 later_settled start bytes found command h later text f names (drops name s es was_there at) have = have
 later_settled start bytes found command h later text f names (follows from full s es may) have = have
 later_settled start bytes found command h later text f names (consumes name from known full s es at tells may) have = have
+later_settled start bytes found command h later text f names (expires_none min max millis s) have = have
+later_settled start bytes found command h later text f names (expires min max millis s es end some ends) have = have
 later_settled start bytes found command h later text f names (rests full s es chosen) have = have
 later_settled start bytes found command h later text f names (compacts full s es groups some chosen) have = have
 later_settled start bytes found command h later text f names (takes_none user number s es took) have = have

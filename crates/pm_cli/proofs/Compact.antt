@@ -217,7 +217,7 @@ keeps_it full e h stands was =
           (λ other was. extends_end (AfterIt other) first after known (starts other was)))
           (extends_end Spares first after known spares);
       own = leaves_weaker (λ f. Folder f end.0) (λ f. Unit {0}) after (λ f folder. tt) end.2;
-      passes = Extends-weaker Spares (λ f. Unit {0}) first.ops after.ops (λ f is. tt) spares;
+      stops = Extends-weaker Spares (λ f. Unit {0}) first.ops after.ops (λ f is. tt) spares;
       images = Extends-weaker
           (λ f. (IsImage e.start full h first f × ((other : Actor) → WasNew own h first other → AfterIt other f)) × Spares f)
           (StandsForSomeFreely own h first) first.ops after.ops

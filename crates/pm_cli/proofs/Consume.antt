@@ -1,7 +1,6 @@
 -- The promise of `follow --consumer`.
-use Rattle.std.proofs.Common.{◌≡◌, ◌≢◌, ◌⊎◌, ◌+◌, ◌-◌, ◌≤◌, ℕ, suc, Bool, true, false, true≢false, List, [], ◌∷◌, ◌++◌, length, append-nil, append_assoc, Contains, Option, None, Some, inl, inr, refl, sym, subst, ap, ◌∙◌, arith}
+use Rattle.std.proofs.Common.{◌≡◌, ◌≢◌, ◌⊎◌, ◌+◌, ◌-◌, ◌≤◌, ℕ, suc, Bool, true, false, true≢false, List, [], ◌∷◌, ◌++◌, length, append-nil, append_assoc, Option, None, Some, inl, inr, refl, sym, subst, ap, ◌∙◌, arith}
 use Rattle.std.specs.FinMap as map
-use Rattle.std.specs.List.{AllByRecursion}
 use Rattle.std.specs.Str.{bytes_eq}
 use Rattle.std.proofs.lemmas.Slice.Eq.{bytes_eq-Decides}
 use Rattle.pm_base.specs.Known.{and_then}
@@ -15,7 +14,7 @@ use Rattle.pm_store.proofs.ImageLaws.{Extends-weaker}
 use Rattle.pm_schema.specs.declared.schema.TableSchema.{TableSchema}
 use Rattle.pm_model_consumers.specs.Claims.{Said, known_at, new_at}
 use Rattle.pm_model_history.specs.History.{Entry, History, no_table, table}
-use Rattle.pm_model_folder.specs.Changes.{Actor, HavePlainNames, IsPlain}
+use Rattle.pm_model_folder.specs.Changes.{Actor, HavePlainNames}
 use Rattle.pm_model_folder.specs.Commits.{Names}
 use Rattle.pm_model_folder.specs.Consumers.{said_at, said_in}
 use Rattle.pm_model_folder.specs.Folder.{Folder, HaveSettled}
@@ -31,9 +30,9 @@ use Rattle.pm_command_consume.specs.Consume.{consuming}
 use Rattle.pm_command_consume.specs.declared.consuming.Consuming.{Consuming}
 use Rattle.pm_command_follow.proofs.TextLemmas.{and_then_twice, follow_split, text_push, took_behind, took_longer}
 use Rattle.pm_cli.specs.InTurn.{IsExecuted}
-use Rattle.pm_cli.specs.Promise.{ArePrinted, MayBecome, Does, Execution, HasMade, Keeps, KeepsIt, LeavesOwn, PassesPrinted, StandsForOthers, consumes, found_by}
+use Rattle.pm_cli.specs.Promise.{ArePrinted, MayBecome, Does, Execution, HasMade, Keeps, KeepsIt, LeavesOwn, StopsOwn, StandsForOthers, consumes, found_by}
 use Rattle.pm_cli.specs.Start.{IsNew, PrintsPieces, consumed_text, frames_after, pieces_of}
-use Rattle.pm_cli.proofs.Common.{NotSink, StandsForSomeFreely, any_both, any_here, extends_each, extends_end, leaves_both, leaves_weaker, makes_nothing, none_made, with_command}
+use Rattle.pm_cli.proofs.Common.{NotSink, StandsForSomeFreely, any_both, any_here, extends_each, extends_end, leaves_both, leaves_weaker, makes_nothing, plain_names, none_made, with_command}
 use Rattle.pm_cli.proofs.Resting.{SameStarts, new_same, resting}
 
 -- ---- what a file says
@@ -43,9 +42,6 @@ said-next a b is = cc
 
 said-fresh : (a b : Said) → Some a ≡ Some b → a.fresh ≡ b.fresh
 said-fresh a b is = cc
-
-plain_names : (s : TableSchema) → IsBuilt s → HavePlainNames s
-plain_names s built = subst (AllByRecursion IsPlain) (sym built.partition) tt
 
 module _ (from : Option ℕ) (name : List ℕ) (full : Bool) (e : Execution) where
   abbrev it : Execution
@@ -75,7 +71,7 @@ module _ (from : Option ℕ) (name : List ℕ) (full : Bool) (e : Execution) whe
       (subst (λ (answer : Option Refusal). HasMade it no_table answer no_table) (sym was.is)
       (makes_nothing it no_table was.refusal (none_not first was.refusal was.cause) was.out))
       was.rests was.images
-      (λ f. (subst (λ (answer : Option Refusal). LeavesOwn (commands.Follow from (Some name) full) no_table answer first f) (sym was.is) tt, tt))
+      (λ f. (subst (λ (answer : Option Refusal). LeavesOwn e.start (commands.Follow from (Some name) full) no_table answer first f) (sym was.is) tt, tt))
 
   -- ---- a table
 
@@ -175,7 +171,7 @@ module _ (from : Option ℕ) (name : List ℕ) (full : Bool) (e : Execution) whe
       other-paths names stage g stands path = at (bytes_eq path (consumer_path name)) refl
         where
           at : (t : Bool) → bytes_eq path (consumer_path name) ≡ t → MayBecome it h f g path
-          at true is = inr (inr (inr ((bytes_eq-Decides path (consumer_path name)).0 is)))
+          at true is = inr (inr (inr (inl ((bytes_eq-Decides path (consumer_path name)).0 is))))
           at false is = inl (stands.only path (λ same. true≢false (sym ((bytes_eq-Decides path (consumer_path name)).1 same) ∙ is)))
 
       -- where its file is as it was, all are
@@ -237,10 +233,10 @@ module _ (from : Option ℕ) (name : List ℕ) (full : Bool) (e : Execution) whe
       known : LeavesFiles (λ g. Unit {0}) first
       known = here (λ g. Unit {0}) tt
 
-      own-ends : (answer : Option Refusal) → Answers [] answer → LeavesFiles (LeavesOwn (commands.Follow from (Some name) full) h answer first) after
+      own-ends : (answer : Option Refusal) → Answers [] answer → LeavesFiles (LeavesOwn e.start (commands.Follow from (Some name) full) h answer first) after
       own-ends answer (prints all leaves settled images) =
           leaves_both (StandsAt c b (passed (frames_at c b))) (λ g. HaveSettled g h (name ∷ []))
-          (LeavesOwn (commands.Follow from (Some name) full) h None first) after
+          (LeavesOwn e.start (commands.Follow from (Some name) full) h None first) after
           (λ g stands have. (
             have,
             here (λ was. said_at g name ≡ Some (known_at (start_after (settled_at was name) from (length es) + frames_after es (settled_at was name) from)))
@@ -283,7 +279,7 @@ module _ (from : Option ℕ) (name : List ℕ) (full : Bool) (e : Execution) whe
           let next = said-next (known_at (start_at c b + k)) (known_at (start_at c b + suc count)) (sym stands.at ∙ is) in
           fewer most count (omega (arith, next, within)) some
 
-      passes-by : (most : ℕ) → Printed most → Extends (IsImage c b most) first.ops after.ops → Extends (PassesPrinted it (commands.Follow from (Some name) full) h first) first.ops after.ops
+      passes-by : (most : ℕ) → Printed most → Extends (IsImage c b most) first.ops after.ops → Extends (StopsOwn it (commands.Follow from (Some name) full) h first) first.ops after.ops
       passes-by most some =
           Extends-weaker (IsImage c b most) (ArePrinted it name from full h first) first.ops after.ops
           (λ g image. here (λ was. (count : ℕ) → said_at g name ≡ Some (known_at (start_after (settled_at was name) from (length es) + suc count))
@@ -297,7 +293,7 @@ module _ (from : Option ℕ) (name : List ℕ) (full : Bool) (e : Execution) whe
       in-part count (in_table has is took leaves) = inl refl
       in-part count (in_frame n has (prefix, rest, parts, took) leaves) = inr (prefix, took ∙ and_then_twice out.taken (printed_at c b n) prefix)
 
-      passes : (answer : Option Refusal) → Answers [] answer → Extends (PassesPrinted it (commands.Follow from (Some name) full) h first) first.ops after.ops
+      passes : (answer : Option Refusal) → Answers [] answer → Extends (StopsOwn it (commands.Follow from (Some name) full) h first) first.ops after.ops
       passes answer (prints all leaves settled images) = passes-by (frames_at c b) (printed-whole (frames_at c b) all) images
       passes answer (breaks_off count breaks failed images) = passes-by count (in-part count breaks) images
       passes answer (refuses refusal may same images) = passes-by 0 (inl refl) images
@@ -321,7 +317,7 @@ module _ (from : Option ℕ) (name : List ℕ) (full : Bool) (e : Execution) whe
             own = own-ends e.refusal at;
             images = Extends-weaker (λ g. Stands [] g × ((names : List (List ℕ)) → WereSettled names → Stands names g)) (StandsForSomeFreely it h first)
                 first.ops after.ops (λ g is. (h, inl refl, freely starts law g is.0 is.1)) all;
-            passes = passes e.refusal at;
+            stops = passes e.refusal at;
           }
 
 pub keeps : SameStarts → SameContents → (from : Option ℕ) (name : List ℕ) (full : Bool) (e : Execution) → IsExecuted (with_command (commands.Follow from (Some name) full) e)

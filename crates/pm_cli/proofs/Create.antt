@@ -306,7 +306,7 @@ module _ (kept : FolderKept) (stay : ContentsStay) (one : OneContents) (law : Dr
         makes = end.1.0;
         ends = ends_freely h end.0 alone may end.1.1 end.2;
         own = leaves_weaker (λ f. Folder f end.0) (λ f. Unit {0}) after (λ f folder. tt) end.2;
-        passes = Extends-weaker (Spares h) (λ f. Unit {0}) first.ops after.ops (λ f is. tt) (spares_at h alone may);
+        stops = Extends-weaker (Spares h) (λ f. Unit {0}) first.ops after.ops (λ f is. tt) (spares_at h alone may);
         images = images_freely h alone may
             (Extends-weaker (IsImage e.start e.input h) (StandsForEither e.start e.input h) first.ops after.ops (λ f is. is.either) was.images);
       }

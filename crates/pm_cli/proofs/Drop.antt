@@ -181,7 +181,7 @@ module _ (name : List ℕ) (e : Execution) where
               (leaves_turned (λ f g. StandsWithout name h [] f g × ItEnds name e.refusal f g) first after was.leaves);
           images = Extends-weaker (λ g. StandNow [] g × ((names : List (List ℕ)) → WereSettled names → StandNow names g)) (StandsForSomeFreely it h first)
               first.ops after.ops (λ g is. (h, inl refl, freely g is.0 is.1)) all;
-          passes = Extends-weaker (StandNow []) (λ g. Unit {0}) first.ops after.ops (λ g is. tt) (images [] was);
+          stops = Extends-weaker (StandNow []) (λ g. Unit {0}) first.ops after.ops (λ g is. tt) (images [] was);
         }
 
   -- none of no names is settled

@@ -60,6 +60,8 @@ acts_goes_on (commands.Consumers (Some name)) start before after answer (made, (
     Traces-goes_on own before.store after.store traces
 acts_goes_on commands.Snapshots start before after answer (made, (own, did, traces), beside, prints) = Traces-goes_on own before.store after.store traces
 acts_goes_on (commands.Compact full) start before after answer (made, (own, did, traces), prints) = Traces-goes_on own before.store after.store traces
+acts_goes_on (commands.Expire min max millis) start before after answer (made, (own, did, traces), beside, prints) =
+    Traces-goes_on own before.store after.store traces
 acts_goes_on (commands.Follow from None full) start before after answer ((own, ends, traces), beside) = Traces-goes_on own before.store after.store traces
 acts_goes_on (commands.Follow from (Some name) full) start before after answer ((own, ends, traces), beside) =
     Traces-goes_on own before.store after.store traces

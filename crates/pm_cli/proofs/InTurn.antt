@@ -1,5 +1,5 @@
 -- Commands that are executed one after another.
-use Rattle.std.proofs.Common.{◌≡◌, ◌⊎◌, inl, inr, ◌≤◌, ℕ, suc, List, [], ◌∷◌, length, map as each_of, slice_get, append-nil, Contains, Option, None, Some, IsSomeAnd, Ok, refl, sym, subst, ap, ◌∙◌}
+use Rattle.std.proofs.Common.{◌≡◌, inl, inr, ◌≤◌, ℕ, zero, suc, List, [], ◌∷◌, length, map as each_of, slice_get, append-nil, Contains, Option, None, Some, IsSomeAnd, Ok, refl, sym, subst, ap, ◌∙◌}
 use Rattle.std.specs.FinMap as map
 use Rattle.std.specs.List.{AllByRecursion}
 use Rattle.pm_base.specs.Known.{and_then}
@@ -14,13 +14,16 @@ use Rattle.pm_model_history.specs.History.{Entry, History, no_table, rows_up_to,
 use Rattle.pm_model_history.specs.Merge.{HistoryRow}
 use Rattle.pm_model_history.specs.Merged.{scan_text}
 use Rattle.pm_snapshot.specs.Names.{snapshot_name}
-use Rattle.pm_model_folder.specs.Changes.{Actor, origin_name}
+use Rattle.pm_model_folder.specs.Changes.{Actor, IsSnapshotPath, origin_name}
 use Rattle.pm_model_folder.specs.Folder.{Folder, HaveSettled}
 use Rattle.pm_model_folder.specs.Ledger.{count_of}
 use Rattle.pm_model_folder.specs.Paths.{consumer_path}
+use Rattle.pm_model_folder.proofs.BesideLemmas.{floor-consumer, needs-no_consumer}
 use Rattle.pm_model_folder.proofs.PathLemmas.{consumer-own, consumer-schema, consumer-snapshot}
 use Rattle.pm_create.specs.Making.{LeavesFiles}
 use Rattle.pm_write.specs.Taken.{all_taken}
+use Rattle.pm_expire.specs.AllCalls.{IsGivenBack, its_file, its_floor, its_snapshot}
+use Rattle.pm_draft.specs.Built.{IsBuilt}
 use Rattle.pm_words.specs.declared.command.Command.{Command}
 use Rattle.pm_words.specs.declared.command.Command.TheVariants as commands
 use Rattle.pm_command.specs.Outside.{actor}
@@ -29,9 +32,9 @@ use Rattle.pm_command.proofs.Uncalled.{next_stands}
 use Rattle.pm_command_create.specs.Create.{IsDraftOf}
 use Rattle.pm_command_write.specs.Write.{entry_by, writer_of}
 use Rattle.pm_cli.specs.InTurn.{AreInTurn, Ending, HaveOwnNames, IsExecuted, HandsOn, MakeInTurn, MakesBy, Turn, ended, others_op, seen_by_another, stopped, to_its_end}
-use Rattle.pm_cli.specs.Promise.{Does, Execution, HasMade, Keeps, KeepsIt, MayBecome, MayMake, StandsForOthers, commits, creates, found_by, has_already, scans, takes_none}
-use Rattle.pm_cli.specs.Start.{HaveOtherNames, IsNew, MayAdd, MayStart, MayTake, MayWrite}
-use Rattle.pm_cli.proofs.Common.{StandsForSomeFreely, any_both, leaves_some, leaves_weaker}
+use Rattle.pm_cli.specs.Promise.{Does, Execution, HasMade, Keeps, KeepsIt, MayBecome, MayMake, ExpiresAt, StandsForOthers, commits, creates, found_by, has_already, scans, takes_none}
+use Rattle.pm_cli.specs.Start.{HaveOtherNames, IsNew, IsOfSnapshots, MayAdd, MayExpire, MayStart, MayTake, MayWrite}
+use Rattle.pm_cli.proofs.Common.{StandsForSomeFreely, any_both, leaves_some, leaves_weaker, plain_names}
 use Rattle.pm_cli.proofs.First.{acts_goes_on, first_same, from_before}
 
 -- what the law of every command says, and that of actors that are new
@@ -136,10 +139,31 @@ pub still_settled : (names : List (List ℕ)) (e : Execution) (h : History) (fir
     → HaveSettled f later names
 still_settled names e h first later f stands others was = stands.settled names (λ name there takes. absurd (others name there takes)) was
 
+-- what goes with snapshots is a snapshot's, one that snapshots name, or a floor
+given-back : (s : TableSchema) (g : Files) (end : ℕ) (path : List ℕ) → IsBuilt s → IsGivenBack s g end path → IsOfSnapshots path
+given-back s g end path built (its_snapshot id below is) = inl (s, id, plain_names s built, inl is)
+given-back s g end path built (its_file id low below names spared) = inl (s, id, plain_names s built, inr (g, names))
+given-back s g end path built (its_floor n below is) = inr (n, is)
+
+-- an expiry takes nothing else
+forgotten : (command : Command) (start : Start) (h : History) (g f : Files) (path bytes : List ℕ) → map.get g path ≡ Some bytes → ExpiresAt command start h g f path
+    → MayExpire command path
+forgotten (commands.Expire min max millis) start h g f path bytes there (s, is, built, (first, end, goes, inl (gone, given))) = given-back s g end path built given
+forgotten (commands.Expire min max millis) start h g f path bytes there (s, is, built, (first, end, goes, inr (absent, floor))) =
+    absurd (let clash : Some bytes ≡ None = sym there ∙ absent in cc)
+forgotten commands.Create start h g f path bytes there never = absurd never
+forgotten (commands.Scan at) start h g f path bytes there never = absurd never
+forgotten commands.Snapshots start h g f path bytes there never = absurd never
+forgotten (commands.Consumers dropped) start h g f path bytes there never = absurd never
+forgotten (commands.Compact full) start h g f path bytes there never = absurd never
+forgotten (commands.Follow from consumer full) start h g f path bytes there never = absurd never
+forgotten (commands.Write user number) start h g f path bytes there never = absurd never
+
 -- a file that is there stays, but for one that they take away or write
 pub still_there : (path bytes : List ℕ) (e : Execution) (h : History) (first : StoreView) (later : History) (f : Files) → StandsForOthers e h first later f
-    → (MayTake e.command path → ⊥) × (MayWrite e.command path → ⊥) → LeavesFiles (λ g. map.get g path ≡ Some bytes) first → map.get f path ≡ Some bytes
-still_there path bytes e h first later f stands (takes, writes) was =
+    → (MayTake e.command path → ⊥) × (MayWrite e.command path → ⊥) × (MayExpire e.command path → ⊥) → LeavesFiles (λ g. map.get g path ≡ Some bytes) first
+    → map.get f path ≡ Some bytes
+still_there path bytes e h first later f stands (takes, writes, forgets) was =
     any_both (λ g. (path : List ℕ) → MayBecome e h g f path) (λ g. map.get g path ≡ Some bytes) (map.get f path ≡ Some bytes) first
     (λ g becomes there. at g there (becomes path)) stands.changes was
   where
@@ -150,7 +174,8 @@ still_there path bytes e h first later f stands (takes, writes) was =
     at g there (inl same) = same ∙ there
     at g there (inr (inl (none, own))) = absurd (not-both (map.get g path) there none)
     at g there (inr (inr (inl (none, takes_it)))) = absurd (takes takes_it)
-    at g there (inr (inr (inr writes_it))) = absurd (writes writes_it)
+    at g there (inr (inr (inr (inl writes_it)))) = absurd (writes writes_it)
+    at g there (inr (inr (inr (inr forgets_it)))) = absurd (forgets (forgotten e.command e.start h g f path bytes there forgets_it))
 
 -- no command makes a consumer's file but a following with it
 no-consumer : (command : Command) (me : Actor) (h : History) (name : List ℕ) → MayAdd command me h (consumer_path name) → ⊥
@@ -163,7 +188,41 @@ no-consumer (commands.Write user number) me h name (inr is) = consumer-snapshot 
 no-consumer (commands.Scan at) me h name may = may
 no-consumer commands.Snapshots me h name may = may
 no-consumer (commands.Consumers dropped) me h name may = may
+no-consumer (commands.Expire min max millis) me h name may = may
 no-consumer (commands.Follow from consumer full) me h name may = may
+
+-- and none is such
+snapshot-no_consumer : (s : TableSchema) (id : ℕ) (name : List ℕ) → IsSnapshotPath s id (consumer_path name) → ⊥
+snapshot-no_consumer s zero name (origin, is, at) = consumer-snapshot name origin at
+snapshot-no_consumer s (suc id) name at = consumer-snapshot name (snapshot_name (suc id)) at
+
+no-consumer-forgotten : (name : List ℕ) → IsOfSnapshots (consumer_path name) → ⊥
+no-consumer-forgotten name (inl (s, id, plain, inl at)) = snapshot-no_consumer s id name at
+no-consumer-forgotten name (inl (s, id, plain, inr (f, names))) = needs-no_consumer f s id (consumer_path name) name plain (inr (inr names)) refl
+no-consumer-forgotten name (inr (n, at)) = floor-consumer n name (sym at)
+
+pub spares-consumers : (command : Command) (name : List ℕ) → MayExpire command (consumer_path name) → ⊥
+spares-consumers (commands.Expire min max millis) name forgets = no-consumer-forgotten name forgets
+spares-consumers commands.Create name never = never
+spares-consumers (commands.Scan at) name never = never
+spares-consumers commands.Snapshots name never = never
+spares-consumers (commands.Consumers dropped) name never = never
+spares-consumers (commands.Compact full) name never = never
+spares-consumers (commands.Follow from consumer full) name never = never
+spares-consumers (commands.Write user number) name never = never
+
+-- an expiry makes none
+forgets-none : (command : Command) (start : Start) (h : History) (g f : Files) (name : List ℕ) → ExpiresAt command start h g f (consumer_path name)
+    → map.get f (consumer_path name) ≡ None
+forgets-none (commands.Expire min max millis) start h g f name (s, is, built, (first, end, goes, inl (gone, given))) = gone
+forgets-none (commands.Expire min max millis) start h g f name (s, is, built, (first, end, goes, inr (absent, floor))) = absurd (floor-consumer end name (sym floor))
+forgets-none commands.Create start h g f name never = absurd never
+forgets-none (commands.Scan at) start h g f name never = absurd never
+forgets-none commands.Snapshots start h g f name never = absurd never
+forgets-none (commands.Consumers dropped) start h g f name never = absurd never
+forgets-none (commands.Compact full) start h g f name never = absurd never
+forgets-none (commands.Follow from consumer full) start h g f name never = absurd never
+forgets-none (commands.Write user number) start h g f name never = absurd never
 
 pub still_gone : (name : List ℕ) (e : Execution) (h : History) (first : StoreView) (later : History) (f : Files) → StandsForOthers e h first later f
     → (MayWrite e.command (consumer_path name) → ⊥) → LeavesFiles (λ g. map.get g (consumer_path name) ≡ None) first → map.get f (consumer_path name) ≡ None
@@ -175,7 +234,8 @@ still_gone name e h first later f stands writes was =
     at g none (inl same) = same ∙ none
     at g none (inr (inl (absent, own))) = absurd (no-consumer e.command (actor e.start) h name own)
     at g none (inr (inr (inl (gone, takes_it)))) = gone
-    at g none (inr (inr (inr writes_it))) = absurd (writes writes_it)
+    at g none (inr (inr (inr (inl writes_it)))) = absurd (writes writes_it)
+    at g none (inr (inr (inr (inr forgets_it)))) = forgets-none e.command e.start h g f name forgets_it
 
 -- ---- another handle
 

@@ -4,6 +4,7 @@ mod Compact
 mod Consume
 mod Create
 mod Drop
+mod Expire
 mod First
 mod Follow
 mod InTurn

@@ -18,13 +18,15 @@ use Rattle.pm_words.specs.declared.command.Command.{Command}
 use Rattle.pm_words.specs.declared.command.Command.TheVariants as commands
 use Rattle.pm_command.specs.Outside.{outside}
 use Rattle.pm_command.specs.declared.start.Start.{Start}
-use Rattle.pm_cli.specs.Commands.{Acts, Answers, ServesHistories}
+use Rattle.pm_expire_end.specs.declared.keep.KeepAsked.{KeepAsked}
+use Rattle.pm_cli.specs.Commands.{Acts, Answers, ServesHistories, keep_asked}
 use Rattle.pm_command_compact.specs.Compact as compact
 use Rattle.pm_command_consume.specs.Alone.{ConsumesAny}
 use Rattle.pm_command_consume.specs.Consume.{HasConsumed, IsConsuming, consuming}
 use Rattle.pm_command_consume.specs.declared.consuming.Consuming.{Consuming}
 use Rattle.pm_command_consumers.specs.Consumers as consumers
 use Rattle.pm_command_consumers.specs.Drop as drops
+use Rattle.pm_command_expire.specs.Expire as expire
 use Rattle.pm_command_follow.specs.Follow as follow
 use Rattle.pm_command_follow.specs.Follow.{DidSchema}
 use Rattle.pm_command_scan.specs.Scan as scan
@@ -37,6 +39,7 @@ use Rattle.pm_command_consume.proofs.OpenLemmas.{schema_refused}
 use Rattle.pm_command_consume.proofs.PieceLemmas.{schema_shown}
 use Rattle.pm_command_consumers.proofs.ConsumerLaws as reads
 use Rattle.pm_command_consumers.proofs.DropLaws as removes
+use Rattle.pm_command_expire.proofs.ExpireLaws as expires
 use Rattle.pm_command_scan.proofs.ScanLaws as scans
 use Rattle.pm_command_snapshots.proofs.SnapshotLaws as lists
 use Rattle.pm_command_write.proofs.WriteLaws.{input_acts, input_refused, refused_serves}
@@ -73,6 +76,12 @@ compacted_none : (start : Start) (full : Bool) (out : SinkView) (store : StoreVi
 compacted_none start full out store =
     compacts.refused_compacted start full refusals.Memory out store store (compacts.read_refused start full refusals.Memory store store (read_none store))
     (compacts.read_keeps start full refusals.Memory store store (reads_none store))
+
+expired_none : (start : Start) (asked : KeepAsked) (out : SinkView) (store : StoreView)
+    → expire.IsTableExpired start asked out out store store (Some refusals.Memory)
+expired_none start asked out store =
+    expires.refused_expired start asked refusals.Memory out store store (expires.read_refused start asked refusals.Memory store store (read_none store))
+    (expires.read_beside refusals.Memory store store (read_none store)) (expires.read_keeps start asked refusals.Memory store store (reads_none store))
 
 followed_none : (from : Option ℕ) (full : Bool) (out : SinkView) (store : StoreView)
     → follow.IsFollowed from full out out store store (Some refusals.Memory)
@@ -121,6 +130,11 @@ module _ (start : Start) (input : SourceView) (out : SinkView) (store : StoreVie
       (refl, (consumed_none from name full out store, λ me. schema_refused past me (consuming name from full) refusals.Memory out store store (schema_none store)))
   nothing_answers past (commands.Compact full) =
       (refl, compacts.compacted_answers start full (outside input out store) (outside input out store) (Some refusals.Memory) (compacted_none start full out store))
+  nothing_answers past (commands.Expire min max millis) = (
+    refl,
+    expires.expired_answers start (keep_asked min max millis) (outside input out store) (outside input out store) (Some refusals.Memory)
+        (expired_none start (keep_asked min max millis) out store),
+  )
 
   pub nothing_acts : PastStays → (command : Command) → Acts command start (outside input out store) (outside input out store) (Some refusals.Memory)
   nothing_acts past commands.Create = inl (refusals.Memory, refl, tt, record { store = refl; out = refl })
@@ -136,6 +150,9 @@ module _ (start : Start) (input : SourceView) (out : SinkView) (store : StoreVie
       (consumed_none from name full out store, λ me. schema_refused past me (consuming name from full) refusals.Memory out store store (schema_none store))
   nothing_acts past (commands.Compact full) =
       compacts.compacted_answers start full (outside input out store) (outside input out store) (Some refusals.Memory) (compacted_none start full out store)
+  nothing_acts past (commands.Expire min max millis) =
+      expires.expired_answers start (keep_asked min max millis) (outside input out store) (outside input out store) (Some refusals.Memory)
+      (expired_none start (keep_asked min max millis) out store)
 
   pub nothing_serves : FollowLaw → ConsumeLaw → (command : Command) → IsInRange command → ServesHistories command start (outside input out store) (outside input out store) (Some refusals.Memory)
   nothing_serves law consume commands.Create range = nothing_made start input out store
@@ -154,3 +171,6 @@ module _ (start : Start) (input : SourceView) (out : SinkView) (store : StoreVie
       (consumed_none from name full out store)
   nothing_serves law consume (commands.Compact full) range =
       compacts.compacted_serves start full (outside input out store) (outside input out store) (Some refusals.Memory) (compacted_none start full out store)
+  nothing_serves law consume (commands.Expire min max millis) range =
+      expires.expired_serves start (keep_asked min max millis) (outside input out store) (outside input out store) (Some refusals.Memory)
+      (expired_none start (keep_asked min max millis) out store)

@@ -14,7 +14,7 @@ use Rattle.pm_model_folder.proofs.SettledLemmas.{same-keeps}
 use Rattle.pm_create.specs.Making.{LeavesFiles}
 use Rattle.pm_commit.specs.AllCalls as commit
 use Rattle.pm_command.specs.Outside.{HaveSame, ImagesRest, Prints, Rests}
-use Rattle.pm_cli.specs.Promise.{MayBecome, Execution, HasMade, KeepsIt, LeavesOwn, PassesPrinted, StandsForOthers}
+use Rattle.pm_cli.specs.Promise.{MayBecome, Execution, HasMade, KeepsIt, LeavesOwn, StopsOwn, StandsForOthers}
 use Rattle.pm_cli.specs.Start.{IsNew}
 use Rattle.pm_cli.proofs.Common.{NotSink, StandsForSomeFreely, any_both, any_here, leaves_both, leaves_turned, leaves_weaker, still_settled}
 
@@ -40,16 +40,16 @@ module _ (law : SameStarts) (e : Execution) (h : History) (first : StoreView) wh
         (leaves_weaker (λ f. HaveSame f g) (λ f. KeepsConsumers h f g) first (λ f is. same-keeps f g is h) same) names;
   }
 
-  pub resting : HasMade e h e.refusal h → Rests h first after → ImagesRest h first after → ((f : Files) → LeavesOwn e.command h e.refusal first f × PassesPrinted e e.command h first f)
+  pub resting : HasMade e h e.refusal h → Rests h first after → ImagesRest h first after → ((f : Files) → LeavesOwn e.start e.command h e.refusal first f × StopsOwn e e.command h first f)
       → KeepsIt e h first
   resting makes rests images own = record {
     later = h;
     makes = makes;
     ends = leaves_both (λ g. Folder g h) (λ g. LeavesFiles (λ f. HaveSame f g) first) (StandsForOthers e h first h) after freely rests.folder
         (leaves_turned HaveSame first after rests.same);
-    own = leaves_weaker (λ g. Folder g h) (LeavesOwn e.command h e.refusal first) after (λ f folder. (own f).0) rests.folder;
-    passes = any_here (λ f. Extends (λ g. Folder g h × HaveSame f g) first.ops after.ops) (Extends (PassesPrinted e e.command h first) first.ops after.ops) first
-        (λ f images here. Extends-weaker (λ g. Folder g h × HaveSame f g) (PassesPrinted e e.command h first) first.ops after.ops (λ g is. (own g).1) images)
+    own = leaves_weaker (λ g. Folder g h) (LeavesOwn e.start e.command h e.refusal first) after (λ f folder. (own f).0) rests.folder;
+    stops = any_here (λ f. Extends (λ g. Folder g h × HaveSame f g) first.ops after.ops) (Extends (StopsOwn e e.command h first) first.ops after.ops) first
+        (λ f images here. Extends-weaker (λ g. Folder g h × HaveSame f g) (StopsOwn e e.command h first) first.ops after.ops (λ g is. (own g).1) images)
         images;
     images = any_here (λ f. Extends (λ g. Folder g h × HaveSame f g) first.ops after.ops) (Extends (StandsForSomeFreely e h first) first.ops after.ops) first
         (λ f images here. Extends-weaker (λ g. Folder g h × HaveSame f g) (StandsForSomeFreely e h first) first.ops after.ops

@@ -336,7 +336,7 @@ keeps_it user number e h stands was =
           (λ other was. extends_end (AfterIt other) first after known (starts other was)))
           (extends_end Spares first after known spares);
       own = leaves_weaker (λ f. Folder f end.0) (λ f. Unit {0}) after (λ f folder. tt) end.2;
-      passes = Extends-weaker Spares (λ f. Unit {0}) first.ops after.ops (λ f is. tt) spares;
+      stops = Extends-weaker Spares (λ f. Unit {0}) first.ops after.ops (λ f is. tt) spares;
       images = Extends-weaker
           (λ f. (IsImage e.start (writer_of user number) (row_lines e.input) h f × ((other : Actor) → WasNew own h first other → AfterIt other f)) × Spares f)
           (StandsForSomeFreely own h first) first.ops after.ops

@@ -5,6 +5,7 @@ use Rattle.pm_io.specs.Sink.{SinkView}
 use Rattle.pm_store.specs.Store.{StoreView}
 use Rattle.pm_model_folder.specs.Changes.{Actor}
 use Rattle.pm_command_create.specs.Create.{AnswersCreate, ActsCreate, CreatesTables}
+use Rattle.pm_expire_end.specs.declared.keep.KeepAsked.{KeepAsked}
 use Rattle.pm_command.specs.Outside.{Outside}
 use Rattle.pm_command.specs.declared.start.Start.{Start}
 use Rattle.pm_command_compact.specs.Compact.{Compacts, CompactsTables}
@@ -13,6 +14,7 @@ use Rattle.pm_command_consume.specs.Beside.{ConsumesBeside}
 use Rattle.pm_command_consume.specs.Consume.{consuming}
 use Rattle.pm_command_consumers.specs.Consumers as consumers
 use Rattle.pm_command_consumers.specs.Drop as drops
+use Rattle.pm_command_expire.specs.Expire.{AnswersExpire, ExpiresTables}
 use Rattle.pm_command_follow.specs.Follow.{Follows, FollowsTables}
 use Rattle.pm_command_scan.specs.Scan.{Scans, ScansTables}
 use Rattle.pm_command_snapshots.specs.Snapshots.{ListsSnapshots, ListsTables}
@@ -54,6 +56,10 @@ abbrev pub IsFollowedOrConsumed : Option ℕ → Option (List ℕ) → Bool → 
 IsFollowedOrConsumed from consumer full before after answer = FollowsOrConsumes from consumer full before after answer
     × FollowsOrConsumesTables from consumer full before after answer
 
+-- what `expire` is asked to keep
+abbrev pub keep_asked : Option ℕ → Option ℕ → Option ℕ → KeepAsked
+keep_asked min max millis = record { min = min; max = max; millis = millis }
+
 -- what a command answers to an input that is known
 abbrev pub Answers : Command → Start → Outside → Outside → Option Refusal → Type 0
 Answers commands.Create start before after answer =
@@ -66,6 +72,8 @@ Answers (commands.Consumers dropped) start before after answer =
     (after.input ≡ before.input) × ListsOrDrops dropped before after answer
 Answers (commands.Compact full) start before after answer =
     (after.input ≡ before.input) × Compacts start full before after answer
+Answers (commands.Expire min max millis) start before after answer =
+    (after.input ≡ before.input) × AnswersExpire start (keep_asked min max millis) before after answer
 Answers (commands.Follow from consumer full) start before after answer =
     (after.input ≡ before.input) × FollowsOrConsumes from consumer full before after answer
 Answers (commands.Write user identifier) start before after answer =
@@ -79,6 +87,8 @@ Acts (commands.Scan snapshot) start before after answer = Scans snapshot before 
 Acts commands.Snapshots start before after answer = ListsSnapshots before after answer
 Acts (commands.Consumers dropped) start before after answer = ListsOrDrops dropped before after answer
 Acts (commands.Compact full) start before after answer = Compacts start full before after answer
+Acts (commands.Expire min max millis) start before after answer =
+    AnswersExpire start (keep_asked min max millis) before after answer
 Acts (commands.Follow from consumer full) start before after answer =
     FollowsOrConsumes from consumer full before after answer
 Acts (commands.Write user identifier) start before after answer =
@@ -92,6 +102,8 @@ ServesHistories commands.Snapshots start before after answer = ListsTables befor
 ServesHistories (commands.Consumers dropped) start before after answer =
     ListsOrDropsTables dropped before after answer
 ServesHistories (commands.Compact full) start before after answer = CompactsTables start full before after answer
+ServesHistories (commands.Expire min max millis) start before after answer =
+    ExpiresTables start (keep_asked min max millis) before after answer
 ServesHistories (commands.Follow from consumer full) start before after answer =
     FollowsOrConsumesTables from consumer full before after answer
 ServesHistories (commands.Write user identifier) start before after answer =

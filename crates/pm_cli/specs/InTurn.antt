@@ -12,7 +12,7 @@ use Rattle.pm_model_folder.specs.Paths.{consumer_path}
 use Rattle.pm_command.specs.Outside.{actor}
 use Rattle.pm_cli.specs.Commands.{Acts, ServesHistories}
 use Rattle.pm_cli.specs.Promise.{Execution, HasMade, MayMake}
-use Rattle.pm_cli.specs.Start.{HasInput, HaveOtherNames, MayTake, MayWrite}
+use Rattle.pm_cli.specs.Start.{HasInput, HaveOtherNames, MayExpire, MayTake, MayWrite}
 
 -- it is one by `run`, whose clauses `acts` and `history` say this of the command that its words give
 pub record IsExecuted (e : Execution) : Type 0 where
@@ -77,10 +77,10 @@ abbrev pub DropNone : List Turn → List (List ℕ) → Type 0
 DropNone turns names = AllByRecursion (λ (t : Turn). (name : List ℕ) → Contains names name
     → MayTake t.execution.command (consumer_path name) → ⊥) turns
 
--- none takes the file at a path away or writes it; and none writes it
+-- none takes the file at a path away, alone or with snapshots, or writes it; and none writes it
 abbrev pub TouchNone : List Turn → List ℕ → Type 0
 TouchNone turns path = AllByRecursion (λ (t : Turn). (MayTake t.execution.command path → ⊥)
-    × (MayWrite t.execution.command path → ⊥)) turns
+    × (MayWrite t.execution.command path → ⊥) × (MayExpire t.execution.command path → ⊥)) turns
 
 abbrev pub WriteNone : List Turn → List ℕ → Type 0
 WriteNone turns path = AllByRecursion (λ (t : Turn). MayWrite t.execution.command path → ⊥) turns

@@ -31,6 +31,7 @@ use Rattle.pm_scan.specs.AllCalls.{id_of}
 use Rattle.pm_snapshots.specs.AllCalls.{AreLinesOf}
 use Rattle.pm_snapshots.specs.Lines.{snapshots_text}
 use Rattle.pm_snapshots.specs.declared.line.SnapshotLine.{SnapshotLine}
+use Rattle.pm_expire.specs.AllCalls.{ChangesAt, IsEndIn}
 use Rattle.pm_words.specs.declared.command.Command.{Command}
 use Rattle.pm_words.specs.declared.command.Command.TheVariants as commands
 use Rattle.pm_command.specs.Outside.{actor, Outside}
@@ -39,9 +40,11 @@ use Rattle.pm_command_compact.specs.Compact.{HasChoice}
 use Rattle.pm_command_consume.specs.Alone.{settled_at, start_after}
 use Rattle.pm_command_consumers.specs.Drop.{ItEnds, WasThere, told_text}
 use Rattle.pm_command_create.specs.Create.{IsDraftOf}
+use Rattle.pm_command_expire.specs.Expire.{IsImage, IsLeftBy, OfBuilt, asked_by, kept_text}
 use Rattle.pm_command_follow.specs.Follow.{MayStartAt, TellsChanges}
 use Rattle.pm_command_follow.specs.Printed.{follow_text}
 use Rattle.pm_command_write.specs.Write.{entry_by, identifier_of, writer_of}
+use Rattle.pm_cli.specs.Commands.{keep_asked}
 use Rattle.pm_cli.specs.Snapshots.{AreLines, HasReached, IsReachedAt}
 use Rattle.pm_cli.specs.Start.{HasInput, HaveOtherNames, IsNew, LeavesOut, MayAdd, MayStart, MayTake, MayWrite}
 use Rattle.pm_cli.specs.Start.{changed_path, committed_text, consumed_text, frames_after, pieces_of, snapshot_made}
@@ -69,6 +72,13 @@ pub data Does (start : Start) (bytes : List ℕ) (found : StoreView) : Command �
       → LeavesFiles (λ f. settled_at f name ≡ known) found → TellsChanges s → (known ≡ None → MayStartAt s es from)
       → Does start bytes found (commands.Follow from (Some name) full) (table s es) (table s es)
       (consumed_text s es known from full)
+  expires_none : (min max millis : Option ℕ) (s : TableSchema)
+      → Does start bytes found (commands.Expire min max millis) (table s []) (table s [])
+      (kept_text (record { first = 0; last = 0 }))
+  expires : (min max millis : Option ℕ) (s : TableSchema) (es : List Entry) (end : ℕ) → es ≢ []
+      → LeavesFiles (λ f. IsEndIn (asked_by start (keep_asked min max millis) s) f end) found
+      → Does start bytes found (commands.Expire min max millis) (table s es) (table s es)
+      (kept_text (record { first = end; last = length es }))
   rests : (full : Bool) (s : TableSchema) (es : List Entry) → LeavesFiles (HasChoice start full (table s es) []) found
       → Does start bytes found (commands.Compact full) (table s es) (table s es) (line (codes "nothing to compact"))
   compacts : (full : Bool) (s : TableSchema) (es : List Entry) (groups : List (Group × Bool)) → groups ≢ []
@@ -117,12 +127,19 @@ HasMade e h (Some (refusals.StoreFault path)) later =
     × LeavesOut e.command (found_by e) h e.before.out e.after.out
 HasMade e h (Some other) later = (later ≡ h) × LeavesOut e.command (found_by e) h e.before.out e.after.out
 
+-- An expiry changes the file at a path: it takes it with snapshots that go, or makes the floor which announces their end.
+abbrev pub ExpiresAt : Command → Start → History → Files → Files → List ℕ → Type 0
+ExpiresAt (commands.Expire min max millis) start h was f path =
+    OfBuilt h (λ s. ChangesAt (asked_by start (keep_asked min max millis) s) was f path)
+ExpiresAt other start h was f path = ⊥
+
 -- The file at a path is as it was at first; or it appeared, and the command may make it; or it has gone, and the
--- command may take it away; or the command may write it.
+-- command may take it away; or the command may write it; or an expiry takes it with snapshots, or announces their end.
 abbrev pub MayBecome : Execution → History → Files → Files → List ℕ → Type 0
 MayBecome e h was f path = (map.get f path ≡ map.get was path)
     ⊎ (((map.get was path ≡ None) × MayAdd e.command (actor e.start) h path)
-    ⊎ (((map.get f path ≡ None) × MayTake e.command path) ⊎ MayWrite e.command path))
+    ⊎ (((map.get f path ≡ None) × MayTake e.command path)
+    ⊎ (MayWrite e.command path ⊎ ExpiresAt e.command e.start h was f path)))
 
 -- what became of all files since the first call
 abbrev pub Changes : Execution → History → StoreView → Files → Type 0
@@ -148,13 +165,18 @@ EndsBehind name from (table s es) first f = HaveSettled f (table s es) (name ∷
     × LeavesFiles (λ was. said_at f name ≡ Some (known_at (start_after (settled_at was name) from (length es)
     + frames_after es (settled_at was name) from))) first
 
--- What is left of its own consumer's file, by its answer. After a drop there is none, once the remove was answered,
--- whether or not the sink took what was told; else it is as it was, but that a fault of the remove leaves it so or
--- gone. After a following that printed all it is settled, behind the last frame.
-abbrev pub LeavesOwn : Command → History → Option Refusal → StoreView → Files → Type 0
-LeavesOwn (commands.Consumers (Some name)) h answer first f = LeavesFiles (λ was. ItEnds name answer was f) first
-LeavesOwn (commands.Follow from (Some name) full) h None first f = EndsBehind name from h first f
-LeavesOwn other h answer first f = Unit {0}
+-- What is left of what a command changes beside the history, by its answer. After a drop its consumer has no file, once
+-- the remove was answered, whether or not the sink took what was told; else it is as it was, but that a fault of the
+-- remove leaves it so or gone. After a following that printed all its consumer is settled, behind the last frame. After
+-- an expiry all is gone that goes, and nothing else, once what is kept was told or the sink failed; else no path has
+-- another content, but that want of memory and a fault of the store leave what a stop may.
+abbrev pub LeavesOwn : Start → Command → History → Option Refusal → StoreView → Files → Type 0
+LeavesOwn start (commands.Consumers (Some name)) h answer first f =
+    LeavesFiles (λ was. ItEnds name answer was f) first
+LeavesOwn start (commands.Expire min max millis) h answer first f =
+    LeavesFiles (λ was. IsLeftBy start (keep_asked min max millis) h answer was f) first
+LeavesOwn start (commands.Follow from (Some name) full) h None first f = EndsBehind name from h first f
+LeavesOwn start other h answer first f = Unit {0}
 
 -- Where the consumer of a following is settled one or more snapshots past the start, all frames up to there were
 -- printed whole.
@@ -165,21 +187,25 @@ ArePrinted e name from full (table s es) first f = LeavesFiles (λ was. (count :
     → (rest : List ℕ) × (e.after.out.taken ≡ and_then e.before.out.taken
     (pieces_of s es (settled_at was name) from full (suc count) ++ rest))) first
 
-abbrev pub PassesPrinted : Execution → Command → History → StoreView → Files → Type 0
-PassesPrinted e (commands.Follow from (Some name) full) h first f = ArePrinted e name from full h first f
-PassesPrinted e other h first f = Unit {0}
+-- What a stop leaves of that, in each image: of a following no consumer that is past a frame which wasn't printed whole;
+-- of an expiry the floor in part or whole, or so many of the removes, of which those of snapshots come first.
+abbrev pub StopsOwn : Execution → Command → History → StoreView → Files → Type 0
+StopsOwn e (commands.Expire min max millis) h first f =
+    LeavesFiles (λ was. IsImage e.start (keep_asked min max millis) h was f) first
+StopsOwn e (commands.Follow from (Some name) full) h first f = ArePrinted e name from full h first f
+StopsOwn e other h first f = Unit {0}
 
 -- Of a history that stands at its first call: what it made stands at the end, and in each image of a crash what it may
--- make; others are free to go on there, and who is settled stays so. At the end its own consumer's file is what the
--- answer says, and no image has that past a frame which wasn't printed whole.
+-- make; others are free to go on there, and who is settled stays so. At the end what it changed beside the history is
+-- what the answer says, and in each image what a stop may leave of that.
 pub record KeepsIt (e : Execution) (h : History) (first : StoreView) : Type 0 where
   pub later : History
   pub makes : HasMade e h e.refusal later
   pub ends : LeavesFiles (StandsForOthers e h first later) e.after.store
-  pub own : LeavesFiles (LeavesOwn e.command h e.refusal first) e.after.store
+  pub own : LeavesFiles (LeavesOwn e.start e.command h e.refusal first) e.after.store
   pub images : Extends (λ f. (later : History) × MayMake e h later × StandsForOthers e h first later f)
       first.ops e.after.store.ops
-  pub passes : Extends (PassesPrinted e e.command h first) first.ops e.after.store.ops
+  pub stops : Extends (StopsOwn e e.command h first) first.ops e.after.store.ops
 
 -- the promise: so it is where nobody else acts from the first call on
 abbrev pub Keeps : Execution → Type 0

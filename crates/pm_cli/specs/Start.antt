@@ -9,9 +9,10 @@ use Rattle.pm_store.specs.Files.{Files}
 use Rattle.pm_store.specs.Store.{StoreView}
 use Rattle.pm_schema.specs.declared.schema.TableSchema.{TableSchema}
 use Rattle.pm_model_history.specs.History.{Entry, History, no_table, table}
-use Rattle.pm_model_folder.specs.Changes.{Actor, IsNoOrigin, IsOwn, origin_name}
+use Rattle.pm_model_folder.specs.Changes.{Actor, HavePlainNames, IsNoOrigin, IsOwn, IsSnapshotPath, origin_name}
+use Rattle.pm_model_folder.specs.Commits.{Names}
 use Rattle.pm_model_folder.specs.Folder.{Folder}
-use Rattle.pm_model_folder.specs.Paths.{consumer_path, schema_path}
+use Rattle.pm_model_folder.specs.Paths.{consumer_path, floor_path, schema_path}
 use Rattle.pm_create.specs.Creator.{own_origin}
 use Rattle.pm_create.specs.Making as making
 use Rattle.pm_create.specs.Making.{LeavesFiles}
@@ -31,6 +32,7 @@ MayStart (commands.Scan at) me h f = Folder f h
 MayStart commands.Snapshots me h f = Folder f h
 MayStart (commands.Consumers dropped) me h f = Folder f h
 MayStart (commands.Compact full) me h f = commit.MayStart me h f
+MayStart (commands.Expire min max millis) me h f = Folder f h
 MayStart (commands.Follow from consumer full) me h f = Folder f h
 MayStart (commands.Write user identifier) me h f = commit.MayStart me h f
 
@@ -41,6 +43,7 @@ HasInput (commands.Scan at) bytes left = Unit {0}
 HasInput commands.Snapshots bytes left = Unit {0}
 HasInput (commands.Consumers dropped) bytes left = Unit {0}
 HasInput (commands.Compact full) bytes left = Unit {0}
+HasInput (commands.Expire min max millis) bytes left = Unit {0}
 HasInput (commands.Follow from consumer full) bytes left = Unit {0}
 HasInput (commands.Write user identifier) bytes left = left ≡ Some bytes
 
@@ -61,6 +64,16 @@ MayTake other path = ⊥
 abbrev pub MayWrite : Command → List ℕ → Type 0
 MayWrite (commands.Follow from (Some name) full) path = path ≡ consumer_path name
 MayWrite other path = ⊥
+
+-- The file of a snapshot of some table, or of its origin; one that a snapshot names, of whatever files; or a floor.
+abbrev pub IsOfSnapshots : List ℕ → Type 0
+IsOfSnapshots path = ((s : TableSchema) × (id : ℕ) × HavePlainNames s
+    × (IsSnapshotPath s id path ⊎ ((f : Files) × Names f s id path))) ⊎ ((n : ℕ) × (path ≡ floor_path n))
+
+-- and one that it may take away with snapshots which aren't kept
+abbrev pub MayExpire : Command → List ℕ → Type 0
+MayExpire (commands.Expire min max millis) path = IsOfSnapshots path
+MayExpire other path = ⊥
 
 -- the path of the call by which it makes what it makes of a history, where it makes another one
 abbrev pub changed_path : Command → History → List ℕ

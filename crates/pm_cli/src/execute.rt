@@ -15,10 +15,12 @@ use pm_command_compact::run_compact;
 use pm_command_consume::{Consuming, consume_law, run_consume};
 use pm_command_consumers::{run_consumers, run_drop};
 use pm_command_create::run_create;
+use pm_command_expire::run_expire;
 use pm_command_follow::{follow_law, run_follow};
 use pm_command_scan::run_scan;
 use pm_command_snapshots::run_snapshots;
 use pm_command_write::{Writer, run_write};
+use pm_expire_end::KeepAsked;
 use pm_io::{Sink, Source};
 use pm_model_folder::past_law;
 use pm_store::FileStore;
@@ -92,6 +94,10 @@ fn execute_command<S: Source, W: Sink, F: FileStore>(
         Command::Snapshots => run_snapshots(alloc, out, store),
         Command::Consumers { dropped } => list_or_drop(alloc, dropped, out, store),
         Command::Compact { full } => run_compact(alloc, full, out, store, start),
+        Command::Expire { min, max, millis } => {
+            let asked = KeepAsked { min, max, millis };
+            run_expire(alloc, asked, out, store, start)
+        }
         Command::Follow {
             from,
             consumer,

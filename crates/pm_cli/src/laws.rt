@@ -19,6 +19,7 @@ ghost use Rattle.pm_model_following.specs.Following.{IsFinished, table_text};
 ghost use Rattle.pm_model_folder.specs.Changes.{Actor};
 ghost use Rattle.pm_model_folder.specs.Folder.{Folder, HaveSettled};
 ghost use Rattle.pm_model_folder.specs.Paths.{consumer_path};
+ghost use Rattle.pm_expire_end.specs.declared.keep.KeepAsked.{KeepAsked};
 ghost use Rattle.pm_create.specs.Making.{LeavesFiles};
 ghost use Rattle.pm_write.specs.Taken.{all_taken};
 ghost use Rattle.pm_move_consumer.specs.DropperAllCalls.{ItGoes, ItRests};
@@ -31,6 +32,7 @@ ghost use Rattle.pm_command_compact.specs.Compact as compact;
 ghost use Rattle.pm_command_consume.specs.Alone.{full_after, settled_at, start_after};
 ghost use Rattle.pm_command_consumers.specs.Drop.{StandsWithout};
 ghost use Rattle.pm_command_create.specs.Create.{IsDraftOf, StandsForEither};
+ghost use Rattle.pm_command_expire.specs.Expire as expire;
 ghost use Rattle.pm_command_follow.specs.Finished.{HasPassedAll};
 ghost use Rattle.pm_command_follow.specs.Printed.{LeadFrom, start_of, table_head};
 ghost use Rattle.pm_command_write.specs.Write.{IsImage, Lines, MayStartAfter};
@@ -38,7 +40,7 @@ ghost use Rattle.pm_command_write.specs.declared.writer.Writer.{Writer};
 ghost use Rattle.pm_cli.specs.InTurn.{AreInTurn, DropNone, HandsOn, HaveOwnNames, IsExecuted, MakeInTurn, TouchNone};
 ghost use Rattle.pm_cli.specs.InTurn.{Turn, WriteNone, ended, seen_by_another, to_its_end};
 ghost use Rattle.pm_cli.specs.Promise.{Does, Execution, Keeps, KeepsIt, MayMake};
-ghost use Rattle.pm_cli.specs.Start.{HaveOtherNames, IsNew, MayStart};
+ghost use Rattle.pm_cli.specs.Start.{HaveOtherNames, IsNew, MayExpire, MayStart};
 
 use pm_command_follow::replay_law;
 use pm_model_contents::{one_contents_law, same_law};
@@ -50,10 +52,11 @@ use pm_schema::draft_law;
 /// none; one that has what a crash within `write` or `compact` left, for the history, or for it with the rows of the
 /// input, or with the compaction of its newest snapshot's choice, as once the next snapshot is there; and one that has
 /// what a crash within `scan`, `snapshots`, `consumers` or `follow` left, for the history, and no path has another
-/// content, but that of its consumer where one is dropped or followed with. Another actor that might have started
-/// before `write` or `compact` may start there, and wherever no path has another content. So what `run` promises of a
-/// history holds again of the next `write`, `compact`, `scan`, `snapshots`, `consumers` or `follow`, and after a crash
-/// within one of these; behind a drop or a following with a consumer that of `write` and `compact` for actors that are
+/// content, but that of its consumer where one is dropped or followed with; and one that has what a crash within
+/// `expire` left stands for the history, and is that of an expiry which was stopped. Another actor that might have
+/// started before `write`, `compact` or `expire` may start there, and wherever no path has another content. So what
+/// `run` promises of a history holds again of the next `write`, `compact`, `scan`, `snapshots`, `consumers`, `follow` or
+/// `expire`, and after a crash within one of these; behind a drop or a following with a consumer that of `write` and `compact` for actors that are
 /// new to the table (`free_law`).
 pub fn next_command_law()
     ensures create { (start : Start) (bytes : List ℕ) (h : History) (old new : List Op) (i : ℕ)
@@ -89,6 +92,15 @@ pub fn next_command_law()
         → length old ≤ i → CrashImage new i image
         → (ops : List Op) (store : StoreView) → store.ops ≡ Some ops → files_after ops ≡ image
         → LeavesFiles (λ g. StandsWithout name h names f g × (ItRests name f g ⊎ ItGoes name f g)) store }
+    ensures expires { (start : Start) (asked : KeepAsked) (h : History) (f : Files) (old new : List Op) (i : ℕ)
+        (image : Files) → Extends (λ g. Folder g h × expire.IsImage start asked h f g) (Some old) (Some new)
+        → length old ≤ i → CrashImage new i image
+        → (ops : List Op) (store : StoreView) → store.ops ≡ Some ops → files_after ops ≡ image
+        → LeavesFiles (λ g. Folder g h × expire.IsImage start asked h f g) store }
+    ensures next_to_expire { (other : Actor) (h : History) (old new : List Op) (i : ℕ) (image : Files)
+        → Extends (commit.MayStart other h) (Some old) (Some new) → length old ≤ i → CrashImage new i image
+        → (ops : List Op) (store : StoreView) → store.ops ≡ Some ops → files_after ops ≡ image
+        → LeavesFiles (commit.MayStart other h) store }
 {
     same_law();
 }
@@ -144,6 +156,15 @@ pub fn keeps_compact_law()
         → Keeps (record e { command = commands.Compact full }) }
 {}
 
+/// The promise of `expire`.
+pub fn keeps_expire_law()
+    ensures { (min max millis : Option ℕ) (e : Execution)
+        → IsExecuted (record e { command = commands.Expire min max millis })
+        → Keeps (record e { command = commands.Expire min max millis }) }
+{
+    pm_expire::image_law();
+}
+
 /// The promise of `follow`.
 pub fn keeps_follow_law()
     ensures { (from : Option ℕ) (full : Bool) (e : Execution)
@@ -180,6 +201,7 @@ pub fn keeps_law()
     keeps_consumers_law();
     keeps_drop_law();
     keeps_compact_law();
+    keeps_expire_law();
     keeps_follow_law();
     keeps_consume_law();
     keeps_write_law();
@@ -242,8 +264,8 @@ pub fn in_turn_law()
         × AllByRecursion (λ (t : Turn). IsNew (actor t.execution.start) h f) turns) store
         → (later : History) × MakeInTurn turns h later
         × LeavesFiles (λ f. Folder f later × HaveSettled f later names) last }
-    // a file that is there stays as it is, but that of a consumer which they drop or follow with; and a consumer that
-    // has none gets none, but by a following with it
+    // a file that is there stays as it is, but that of a consumer which they drop or follow with, and where one expires
+    // those of snapshots and floors; and a consumer that has none gets none, but by a following with it
     ensures there { (path bytes : List ℕ) (turns : List Turn) (store last : StoreView) (h : History)
         → AreInTurn store turns last → HaveOwnNames turns → TouchNone turns path
         → LeavesFiles (λ f. Folder f h × (map.get f path ≡ Some bytes)
@@ -256,6 +278,8 @@ pub fn in_turn_law()
         × AllByRecursion (λ (t : Turn). IsNew (actor t.execution.start) h f) turns) store
         → (later : History) × MakeInTurn turns h later
         × LeavesFiles (λ f. Folder f later × (map.get f (consumer_path name) ≡ None)) last }
+    // no expiry takes a consumer's file
+    ensures spared { (command : Command) (name : List ℕ) → MayExpire command (consumer_path name) → ⊥ }
     ensures empty { (turns : List Turn) (store last : StoreView) → store.ops ≡ Some [] → AreInTurn store turns last
         → HaveOwnNames turns
         → (later : History) × MakeInTurn turns no_table later × LeavesFiles (λ f. Folder f later) last }

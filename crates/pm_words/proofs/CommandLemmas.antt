@@ -7,8 +7,8 @@ use Rattle.std.specs.Str.{bytes_eq}
 use Rattle.std.proofs.lemmas.Fmt.{decimal_injective}
 use Rattle.std.proofs.lemmas.Slice.Eq.{bytes_eq-Decides}
 use Rattle.pm_words.specs.Clap.{HasNoOptions, IsGiven, flag, has_bytes, may_stand, value}
-use Rattle.pm_words.specs.Reading.{AreOfCommand, Finds, GiveAfter, IsNameOf, IsNumberOf}
-use Rattle.pm_words.specs.Words.{AreOf, AreOptions, CommandOption, Give, GiveEach, GiveFlag, GiveName, GiveNoCommand, GiveNumber, after_equals, begins_with_hyphen, given, is_among, names_of, word_of}
+use Rattle.pm_words.specs.Reading.{AreOfCommand, Finds, GiveAfter, GiveRetained, IsNameOf, IsNumberOf}
+use Rattle.pm_words.specs.Words.{AreInOrder, AreOf, AreOptions, CommandOption, Give, GiveEach, GiveFlag, GiveName, GiveNoCommand, GiveNumber, IsRetained, after_equals, begins_with_hyphen, given, is_among, names_of, word_of}
 use Rattle.pm_words.specs.declared.command.Command.{Command}
 use Rattle.pm_words.specs.declared.command.Command.TheVariants as commands
 use Rattle.pm_words.proofs.OptionLemmas.{one_list}
@@ -45,6 +45,10 @@ one_of : (word : List ℕ) (options : List CommandOption) (a b : Command) → Ar
 one_of word options commands.Create commands.Create one other = refl
 one_of word options (commands.Compact a) (commands.Compact b) one other = ap commands.Compact (one_flag options (codes "full") a b one.values other.values)
 one_of word options (commands.Consumers a) (commands.Consumers b) one other = ap commands.Consumers (one_name options (codes "drop") a b one.values other.values)
+one_of word options (commands.Expire a m k) (commands.Expire b n l) one other =
+    ap₂ (λ (min max : Option ℕ). commands.Expire min max k) (one_number options (codes "min") a b one.values.0 other.values.0)
+    (one_number options (codes "max") m n one.values.1 other.values.1)
+    ∙ ap (commands.Expire b n) (one_number options (codes "millis") k l one.values.2 other.values.2)
 one_of word options (commands.Follow m c a) (commands.Follow n d b) one other =
     ap₂ (λ (from : Option ℕ) (full : Bool). commands.Follow from c full) (one_number options (codes "from") m n one.values.0 other.values.0)
     (one_flag options (codes "full") a b one.values.2 other.values.2)
@@ -134,6 +138,14 @@ module _ (words : List (List ℕ)) where
   no_compact none (commands.Compact full) after = none after.options after.are after.of.names (flag_is_given after.options (codes "full") full after.of.values, tt)
   no_compact none other after = apart (codes "compact") (word_of other) refl after.of.first
 
+  pub no_expire : HasNoOptions (value (codes "min") ∷ value (codes "max") ∷ value (codes "millis") ∷ []) words → (command : Command)
+      → GiveAfter (codes "expire") words command → ⊥
+  no_expire none (commands.Expire min max millis) after = none after.options after.are after.of.names (
+    number_is after.options (codes "min") min after.of.values.0,
+    (number_is after.options (codes "max") max after.of.values.1, (number_is after.options (codes "millis") millis after.of.values.2, tt)),
+  )
+  no_expire none other after = apart (codes "expire") (word_of other) refl after.of.first
+
   pub no_follow : HasNoOptions (value (codes "from") ∷ value (codes "consumer") ∷ flag (codes "full") ∷ []) words → (command : Command)
       → GiveAfter (codes "follow") words command → ⊥
   no_follow none (commands.Follow from consumer full) after = none after.options after.are after.of.names (
@@ -167,6 +179,30 @@ module _ (words : List (List ℕ)) where
   no_dropped options are none (commands.Consumers dropped) after =
       none dropped (subst (λ os. GiveName os (codes "drop") dropped) (same_options options are (codes "consumers") (commands.Consumers dropped) after) after.of.values)
   no_dropped options are none other after = apart (codes "consumers") (word_of other) refl after.of.first
+
+  pub no_min : (options : List CommandOption) → AreOptions options words → Finds (GiveRetained options (codes "min")) None → (command : Command) → GiveAfter (codes "expire") words command → ⊥
+  no_min options are none (commands.Expire min max millis) after =
+      none min (subst (λ os. GiveNumber os (codes "min") min) (same_options options are (codes "expire") (commands.Expire min max millis) after) after.of.values.0, after.of.values.3.0)
+  no_min options are none other after = apart (codes "expire") (word_of other) refl after.of.first
+
+  pub no_max : (options : List CommandOption) → AreOptions options words → Finds (GiveRetained options (codes "max")) None → (command : Command) → GiveAfter (codes "expire") words command → ⊥
+  no_max options are none (commands.Expire min max millis) after =
+      none max (subst (λ os. GiveNumber os (codes "max") max) (same_options options are (codes "expire") (commands.Expire min max millis) after) after.of.values.1, after.of.values.3.1)
+  no_max options are none other after = apart (codes "expire") (word_of other) refl after.of.first
+
+  pub out_of_order : (options : List CommandOption) → AreOptions options words → (least greatest : Option ℕ) → GiveNumber options (codes "min") least → GiveNumber options (codes "max") greatest
+      → (AreInOrder least greatest → ⊥) → (command : Command) → GiveAfter (codes "expire") words command → ⊥
+  out_of_order options are least greatest low high none (commands.Expire min max millis) after =
+      let lists = same_options options are (codes "expire") (commands.Expire min max millis) after in
+      let first : min ≡ least = one_number options (codes "min") min least (subst (λ os. GiveNumber os (codes "min") min) lists after.of.values.0) low in
+      let second : max ≡ greatest = one_number options (codes "max") max greatest (subst (λ os. GiveNumber os (codes "max") max) lists after.of.values.1) high in
+      none (subst (λ m. AreInOrder m greatest) first (subst (AreInOrder min) second after.of.values.3.2))
+  out_of_order options are least greatest low high none other after = apart (codes "expire") (word_of other) refl after.of.first
+
+  pub no_millis : (options : List CommandOption) → AreOptions options words → Finds (GiveNumber options (codes "millis")) None → (command : Command) → GiveAfter (codes "expire") words command → ⊥
+  no_millis options are none (commands.Expire min max millis) after =
+      none millis (subst (λ os. GiveNumber os (codes "millis") millis) (same_options options are (codes "expire") (commands.Expire min max millis) after) after.of.values.2)
+  no_millis options are none other after = apart (codes "expire") (word_of other) refl after.of.first
 
   pub no_from : (options : List CommandOption) → AreOptions options words → Finds (GiveNumber options (codes "from")) None → (command : Command) → GiveAfter (codes "follow") words command → ⊥
   no_from options are none (commands.Follow from consumer full) after =
@@ -228,6 +264,10 @@ number_found options name text None gives none = go
         let same : text ≡ decimal n = cc in
         none n (gives_one.1, same)
 
+-- a number that isn't one of snapshots to be kept
+pub not_retained : (options : List CommandOption) (name : List ℕ) (number : Option ℕ) → GiveNumber options name number → (IsRetained number → ⊥) → (x : Option ℕ) → GiveRetained options name x → ⊥
+not_retained options name number gives none x is = none (subst IsRetained (one_number options name x number is.0 gives) is.1)
+
 -- ---- words that may stand
 
 plain_stands : (word : List ℕ) → begins_with_hyphen word ≡ false → may_stand word ≡ true
@@ -269,6 +309,7 @@ names_have : (command : Command) → list_all has_bytes (names_of command) ≡ t
 names_have commands.Create = refl
 names_have (commands.Compact full) = refl
 names_have (commands.Consumers dropped) = refl
+names_have (commands.Expire min max millis) = refl
 names_have (commands.Follow from consumer full) = refl
 names_have (commands.Scan snapshot) = refl
 names_have commands.Snapshots = refl

@@ -6,7 +6,7 @@ use Rattle.clap.specs.Simple.{App, new_shape, with_rule}
 use Rattle.clap.specs.Walk.{Rule}
 use Rattle.clap.specs.declared.builder.arg.Arg.{Arg}
 use Rattle.clap.specs.declared.builder.command.Command.{Command}
-use Rattle.pm_words.specs.Clap.{Declared, HasDeclared, app_for, compact_options, consumers_options, follow_options, scan_options, told_of, write_options}
+use Rattle.pm_words.specs.Clap.{Declared, HasDeclared, app_for, compact_options, consumers_options, expire_options, follow_options, scan_options, told_of, write_options}
 
 -- a command with these rules alone
 abbrev app_with : List ℕ → List Rule → App
@@ -30,6 +30,9 @@ consumers_has a is = subst (λ a. HasDeclared a consumers_options) (sym is) (rec
 
 pub compact_has : (a : App) → a ≡ app_for (codes "compact") compact_options → HasDeclared a compact_options
 compact_has a is = subst (λ a. HasDeclared a compact_options) (sym is) (record { named = refl; simple = refl; name = codes "compact"; built = refl; words = refl })
+
+pub expire_has : (a : App) → a ≡ app_for (codes "expire") expire_options → HasDeclared a expire_options
+expire_has a is = subst (λ a. HasDeclared a expire_options) (sym is) (record { named = refl; simple = refl; name = codes "expire"; built = refl; words = refl })
 
 pub follow_has : (a : App) → a ≡ app_for (codes "follow") follow_options → HasDeclared a follow_options
 follow_has a is = subst (λ a. HasDeclared a follow_options) (sym is) (record { named = refl; simple = refl; name = codes "follow"; built = refl; words = refl })

@@ -45,6 +45,9 @@ compact_options = flag (codes "full") ∷ []
 abbrev pub consumers_options : List Declared
 consumers_options = value (codes "drop") ∷ []
 
+abbrev pub expire_options : List Declared
+expire_options = value (codes "min") ∷ value (codes "max") ∷ value (codes "millis") ∷ []
+
 abbrev pub follow_options : List Declared
 follow_options = value (codes "from") ∷ value (codes "consumer") ∷ flag (codes "full") ∷ []
 

@@ -1,7 +1,8 @@
 -- What the parts of words come to.
 use Rattle.std.specs.Prelude.{◌≡◌, ◌≤◌, ℕ, List, Option, None, Some}
 use Rattle.std.specs.Fmt.{decimal}
-use Rattle.pm_words.specs.Words.{AreOf, AreOptions, CommandOption, GiveEach, IsName, greatest_number, names_of, word_of}
+use Rattle.pm_words.specs.Words.{AreOf, AreOptions, CommandOption, GiveEach, GiveNumber, IsName, IsRetained}
+use Rattle.pm_words.specs.Words.{greatest_number, names_of, word_of}
 use Rattle.pm_words.specs.declared.command.Command.{Command}
 
 -- Private: what is found is so; where nothing is found, nothing is
@@ -16,6 +17,10 @@ IsNumberOf text number = (number ≤ greatest_number) × (text ≡ decimal numbe
 -- Private: the text of a name
 abbrev pub IsNameOf : List ℕ → List ℕ → Type 0
 IsNameOf text name = IsName name × (text ≡ name)
+
+-- Private: the option is given with so many snapshots to be kept, or it isn't given
+abbrev pub GiveRetained : List CommandOption → List ℕ → Option ℕ → Type 0
+GiveRetained options option number = GiveNumber options option number × IsRetained number
 
 -- Private: the word and the options are those of the command
 pub record AreOfCommand (word : List ℕ) (options : List CommandOption) (command : Command) : Type 0 where

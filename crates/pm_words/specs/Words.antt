@@ -65,6 +65,10 @@ IsName text = (1 ≤ length text) × (length text ≤ 64) × (list_all is_name_b
 abbrev pub greatest_number : ℕ
 greatest_number = 9223372036854775807
 
+-- the greatest number of snapshots that can be asked to be kept
+abbrev pub greatest_retained : ℕ
+greatest_retained = 2147483647
+
 -- the option is given with this name, or it isn't given
 abbrev pub GiveName : List CommandOption → List ℕ → Option (List ℕ) → Type 0
 GiveName options option name = (given option options ≡ option_map Some name) × IfSome name IsName
@@ -100,6 +104,7 @@ abbrev pub word_of : Command → List ℕ
 word_of commands.Create = codes "create"
 word_of (commands.Compact full) = codes "compact"
 word_of (commands.Consumers dropped) = codes "consumers"
+word_of (commands.Expire min max millis) = codes "expire"
 word_of (commands.Follow from consumer full) = codes "follow"
 word_of (commands.Scan snapshot) = codes "scan"
 word_of commands.Snapshots = codes "snapshots"
@@ -110,14 +115,29 @@ abbrev pub names_of : Command → List (List ℕ)
 names_of commands.Create = []
 names_of (commands.Compact full) = codes "full" ∷ []
 names_of (commands.Consumers dropped) = codes "drop" ∷ []
+names_of (commands.Expire min max millis) = codes "min" ∷ codes "max" ∷ codes "millis" ∷ []
 names_of (commands.Follow from consumer full) = codes "from" ∷ codes "consumer" ∷ codes "full" ∷ []
 names_of (commands.Scan snapshot) = codes "snapshot" ∷ []
 names_of commands.Snapshots = []
 names_of (commands.Write user identifier) = codes "user" ∷ codes "ident" ∷ []
 
--- its names and numbers are those that it takes: a consumer's name, and a first snapshot from 1 on
+-- so many snapshots can be asked to be kept
+abbrev pub IsRetained : Option ℕ → Type 0
+IsRetained number = IfSome number (λ n. (1 ≤ n) × (n ≤ greatest_retained))
+
+-- the least number is at most the greatest, where both are given
+abbrev pub AreInOrder : Option ℕ → Option ℕ → Type 0
+AreInOrder min max = IfSome min (λ least. IfSome max (λ greatest. least ≤ greatest))
+
+-- the least and the greatest number of snapshots to be kept
+abbrev pub AreRetained : Option ℕ → Option ℕ → Type 0
+AreRetained min max = IsRetained min × IsRetained max × AreInOrder min max
+
+-- its names and numbers are those that it takes: a consumer's name, numbers of snapshots to be kept, and a first
+-- snapshot from 1 on
 abbrev pub IsInRange : Command → Type 0
 IsInRange (commands.Consumers dropped) = IfSome dropped IsName
+IsInRange (commands.Expire min max millis) = AreRetained min max
 IsInRange (commands.Follow from consumer full) = IfSome from (λ id. 1 ≤ id) × IfSome consumer IsName
 IsInRange other = Unit {0}
 
@@ -126,6 +146,8 @@ abbrev pub GiveEach : List CommandOption → Command → Type 0
 GiveEach options commands.Create = Unit {0}
 GiveEach options (commands.Compact full) = GiveFlag options (codes "full") full
 GiveEach options (commands.Consumers dropped) = GiveName options (codes "drop") dropped
+GiveEach options (commands.Expire min max millis) = GiveNumber options (codes "min") min
+    × GiveNumber options (codes "max") max × GiveNumber options (codes "millis") millis × AreRetained min max
 GiveEach options (commands.Follow from consumer full) = GiveNumber options (codes "from") from
     × GiveName options (codes "consumer") consumer × GiveFlag options (codes "full") full
     × IfSome from (λ id. 1 ≤ id)

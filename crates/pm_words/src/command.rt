@@ -8,11 +8,11 @@ ghost use Rattle.pm_words.specs.Reading.{Finds, GiveAfter};
 ghost use Rattle.pm_words.specs.Words.{Give, GiveNoCommand, first_word};
 
 use crate::declared::{
-    compact_words, consumers_words, create_words, follow_words, scan_words, snapshots_words,
-    write_words,
+    compact_words, consumers_words, create_words, expire_words, follow_words, scan_words,
+    snapshots_words, write_words,
 };
 use crate::options::{matches_in, texts_in};
-use crate::values::{flag_given, name_given, number_given};
+use crate::values::{are_in_order, flag_given, name_given, number_given, retained_given};
 use pm_values::{Refusal, Txt};
 use std::alloc::{AllocError, Global};
 
@@ -40,6 +40,13 @@ pub enum Command {
     /// To compact it, where the word says so in full.
     Compact {
         full: bool,
+    },
+    /// To remove its oldest snapshots: how many to keep at least and at most, and how many milliseconds old one may be,
+    /// where others are meant than its options say.
+    Expire {
+        min: Option<u64>,
+        max: Option<u64>,
+        millis: Option<u64>,
     },
     /// To print how its snapshots change it, from this one on, which is at least 1, or from the one after the newest;
     /// and where it is asked for in full, before that the table that is passed on at the one below. Where a consumer is
@@ -78,6 +85,7 @@ fn command_of<'a>(
         "compact" => compact_of(alloc, words),
         "consumers" => consumers_of(alloc, words),
         "create" => create_of(alloc, words),
+        "expire" => expire_of(alloc, words),
         "follow" => follow_of(alloc, words),
         "scan" => scan_of(alloc, words),
         "snapshots" => snapshots_of(alloc, words),
@@ -121,6 +129,29 @@ fn create_of<'a>(alloc: Global, words: &'a [&'a str]) -> Result<Option<Command>,
         return Ok(None);
     };
     Ok(Some(Command::Create))
+}
+
+/// The command `expire` with these words after it.
+fn expire_of<'a>(alloc: Global, words: &'a [&'a str]) -> Result<Option<Command>, AllocError>
+    requires { list_all may_stand (map (λ word. word.now) words.now) ≡ true }
+    ensures { IfOk result (Finds (GiveAfter (codes "expire") (map (λ word. word.now) words.entry.now))) }
+{
+    let Some(matches) = matches_in(expire_words(alloc)?, words)? else {
+        return Ok(None);
+    };
+    let Some(min) = retained_given(&matches, "min") else {
+        return Ok(None);
+    };
+    let Some(max) = retained_given(&matches, "max") else {
+        return Ok(None);
+    };
+    if !are_in_order(min, max) {
+        return Ok(None);
+    }
+    let Some(millis) = number_given(&matches, "millis") else {
+        return Ok(None);
+    };
+    Ok(Some(Command::Expire { min, max, millis }))
 }
 
 /// The command `follow` with these words after it.

@@ -2,8 +2,8 @@
 
 ghost use Rattle.std.specs.Prelude.{◌≡◌, [], IfOk, codes};
 ghost use Rattle.clap.specs.Words.{app_of};
-ghost use Rattle.pm_words.specs.Clap.{app_for, compact_options, consumers_options, follow_options, scan_options};
-ghost use Rattle.pm_words.specs.Clap.{write_options};
+ghost use Rattle.pm_words.specs.Clap.{app_for, compact_options, consumers_options, expire_options, follow_options};
+ghost use Rattle.pm_words.specs.Clap.{scan_options, write_options};
 
 use crate::options::{with_flag, with_value, without_options};
 use clap::Command;
@@ -43,6 +43,35 @@ pub(crate) fn create_words<'a>(alloc: Global) -> Command<'a>
         alloc,
         "create",
         "Makes a table of the draft on standard input, a JSON object on one line",
+    )
+}
+
+/// The command `expire` and its options.
+pub(crate) fn expire_words<'a>(alloc: Global) -> Result<Command<'a>, AllocError>
+    ensures { IfOk result (λ command. app_of command ≡ app_for (codes "expire") expire_options) }
+{
+    let about = "Removes the oldest snapshots, and the files that they alone need";
+    let command = without_options(alloc, "expire", about);
+    let command = with_value(
+        alloc,
+        command,
+        "min",
+        "NUMBER",
+        "Keeps at least so many of the latest; else as many as the table's options say",
+    )?;
+    let command = with_value(
+        alloc,
+        command,
+        "max",
+        "NUMBER",
+        "Keeps at most so many, and all from the one on that a consumer reads next",
+    )?;
+    with_value(
+        alloc,
+        command,
+        "millis",
+        "NUMBER",
+        "Of those between, keeps all from the first on that isn't older than so many milliseconds",
     )
 }
 

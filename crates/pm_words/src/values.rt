@@ -4,8 +4,8 @@ ghost use Rattle.std.specs.Prelude.{◌≡◌, ◌≤◌, ◌↔◌, ℕ, List, 
 ghost use Rattle.std.specs.List.{list_all, list_any};
 ghost use Rattle.std.specs.Fmt.{decimal};
 ghost use Rattle.pm_words.specs.Clap.{Declared, HasFound, declared_as, flag, has_flag, value};
-ghost use Rattle.pm_words.specs.Reading.{Finds, IsNameOf, IsNumberOf};
-ghost use Rattle.pm_words.specs.Words.{GiveFlag, GiveName, GiveNumber, IsName, is_name_byte};
+ghost use Rattle.pm_words.specs.Reading.{Finds, GiveRetained, IsNameOf, IsNumberOf};
+ghost use Rattle.pm_words.specs.Words.{AreInOrder, GiveFlag, GiveName, GiveNumber, IsName, IsRetained, is_name_byte};
 
 use clap::ArgMatches;
 use itoa::Buffer;
@@ -14,6 +14,9 @@ use std::alloc::{AllocError, Global};
 
 /// The greatest number that an option takes.
 const GREATEST_NUMBER: u64 = 9223372036854775807;
+
+/// The greatest number of snapshots that can be asked to be kept.
+const GREATEST_RETAINED: u64 = 2147483647;
 
 /// Whether the flag is given.
 pub(crate) fn flag_given(matches: &ArgMatches, option: &str) -> bool
@@ -54,6 +57,40 @@ pub(crate) fn number_given(matches: &ArgMatches, option: &str) -> Option<Option<
             Some(Some(number))
         }
         None => Some(None),
+    }
+}
+
+/// The number of snapshots to be kept that is given here, if one is or the option is absent.
+pub(crate) fn retained_given(matches: &ArgMatches, option: &str) -> Option<Option<u64>>
+    ensures { (declared : List Declared) (words : List (List ℕ)) (found : HasFound declared words matches.now)
+        → declared_as option.now declared ≡ Some (value option.now)
+        → list_any (has_flag option.now) declared ≡ false → Finds (GiveRetained found.options option.now) result }
+{
+    let number = number_given(matches, option)?;
+    if is_retained(number) {
+        Some(number)
+    } else {
+        None
+    }
+}
+
+/// Whether so many snapshots can be asked to be kept, where a number is given.
+fn is_retained(number: Option<u64>) -> bool
+    ensures { IsTrue result ↔ IsRetained number }
+{
+    match number {
+        Some(n) => n >= 1 && n <= GREATEST_RETAINED,
+        None => true,
+    }
+}
+
+/// Whether the least number is at most the greatest, where both are given.
+pub(crate) fn are_in_order(least: Option<u64>, greatest: Option<u64>) -> bool
+    ensures { IsTrue result ↔ AreInOrder least greatest }
+{
+    match (least, greatest) {
+        (Some(least), Some(greatest)) => least <= greatest,
+        _ => true,
     }
 }
 

@@ -1,9 +1,12 @@
-use Rattle.std.proofs.Common.{refl}
+use Rattle.std.proofs.Common.{ℕ, ◌≤◌, Option, None, Some, IfSome, refl}
 use Rattle.std.specs.Result.{result_err}
+use Rattle.pm_words.specs.Words.{IsRetained}
 use Rattle.pm_command.specs.Outside.{outside}
 use Rattle.pm_command_compact.proofs.CompactLaws.{compacted_answers, compacted_serves}
+use Rattle.pm_command_expire.proofs.ExpireLaws.{expired_answers, expired_serves}
 use Rattle.pm_command_scan.proofs.ScanLaws.{scanned_serves}
 use Rattle.pm_command_snapshots.proofs.SnapshotLaws.{listed_answers, listed_serves}
+use Rattle.pm_cli.specs.Commands.{keep_asked}
 use Rattle.pm_cli.proofs.ListOrDrop.{answers_of, serves_of}
 use Rattle.pm_cli.proofs.execute.execute_command.Goals as goal
 
@@ -97,6 +100,40 @@ returns-in-Compact-clause-history g c =
     (outside (g.S.Source.seen c.args.input.now) (g.W.Sink.seen c.args.out.now) (g.F.FileStore.seen c.args.store.now))
     (outside (g.S.Source.seen c.args.input.now) (g.W.Sink.seen c.run_compact.new.out) (g.F.FileStore.seen c.run_compact.new.store))
     (result_err c.run_compact.result) c.run_compact.ensures.compacted)
+
+pub returns-in-Expire-clause-command : goal.returns-in-Expire-clause-command
+returns-in-Expire-clause-command g c =
+    rw c.in-Expire.is (
+      refl,
+      expired_answers c.args.start.now (keep_asked c.in-Expire.min c.in-Expire.max c.in-Expire.millis)
+          (outside (g.S.Source.seen c.args.input.now) (g.W.Sink.seen c.args.out.now) (g.F.FileStore.seen c.args.store.now))
+          (outside (g.S.Source.seen c.args.input.now) (g.W.Sink.seen c.run_expire.new.out) (g.F.FileStore.seen c.run_expire.new.store))
+          (result_err c.run_expire.result) c.run_expire.ensures.expired,
+    )
+
+pub returns-in-Expire-clause-acts : goal.returns-in-Expire-clause-acts
+returns-in-Expire-clause-acts g c =
+    rw c.in-Expire.is
+    (expired_answers c.args.start.now (keep_asked c.in-Expire.min c.in-Expire.max c.in-Expire.millis)
+    (outside (g.S.Source.seen c.args.input.now) (g.W.Sink.seen c.args.out.now) (g.F.FileStore.seen c.args.store.now))
+    (outside (g.S.Source.seen c.args.input.now) (g.W.Sink.seen c.run_expire.new.out) (g.F.FileStore.seen c.run_expire.new.store))
+    (result_err c.run_expire.result) c.run_expire.ensures.expired)
+
+pub returns-in-Expire-clause-history : goal.returns-in-Expire-clause-history
+returns-in-Expire-clause-history g c =
+    rw c.in-Expire.is
+    (expired_serves c.args.start.now (keep_asked c.in-Expire.min c.in-Expire.max c.in-Expire.millis)
+    (outside (g.S.Source.seen c.args.input.now) (g.W.Sink.seen c.args.out.now) (g.F.FileStore.seen c.args.store.now))
+    (outside (g.S.Source.seen c.args.input.now) (g.W.Sink.seen c.run_expire.new.out) (g.F.FileStore.seen c.run_expire.new.store))
+    (result_err c.run_expire.result) c.run_expire.ensures.expired)
+
+-- a least number that is asked isn't 0
+least_asked : (min : Option ℕ) → IsRetained min → IfSome min (λ n. 1 ≤ n)
+least_asked None range = tt
+least_asked (Some n) range = range.0
+
+pub run_expire-requires : goal.run_expire-requires
+run_expire-requires g c = let range = rw c.in-Expire.is at c.requires in record { some = least_asked c.in-Expire.min range.0 }
 
 pub returns-in-Follow-clause-command : goal.returns-in-Follow-clause-command
 returns-in-Follow-clause-command g c =

@@ -50,6 +50,7 @@ new_starts (commands.Write user identifier) me h f new = (new.folder, new.names)
 new_starts (commands.Scan at) me h f new = new.folder
 new_starts commands.Snapshots me h f new = new.folder
 new_starts (commands.Consumers dropped) me h f new = new.folder
+new_starts (commands.Expire min max millis) me h f new = new.folder
 new_starts (commands.Follow from consumer full) me h f new = new.folder
 new_starts (commands.Compact full) me h f new = (new.folder, new.names)
 
@@ -82,6 +83,7 @@ created_start (commands.Write user identifier) me s f stands = (stands, λ t id 
 created_start (commands.Scan at) me s f stands = stands
 created_start commands.Snapshots me s f stands = stands
 created_start (commands.Consumers dropped) me s f stands = stands
+created_start (commands.Expire min max millis) me s f stands = stands
 created_start (commands.Follow from consumer full) me s f stands = stands
 created_start (commands.Compact full) me s f stands = (stands, λ t id path is from to has by. none_between id from to)
 

@@ -7,8 +7,8 @@ use Rattle.pm_model_folder.specs.Folder.{Folder, HaveSettled}
 use Rattle.pm_model_folder.specs.Paths.{consumer_path}
 use Rattle.pm_command.specs.Outside.{actor}
 use Rattle.pm_cli.specs.InTurn.{Turn}
-use Rattle.pm_cli.specs.Start.{IsNew, MayTake, MayWrite}
-use Rattle.pm_cli.proofs.InTurn.{all_new, at_nothing, in_turn, in_turn_from, still_gone, still_settled, still_there, to_another}
+use Rattle.pm_cli.specs.Start.{IsNew, MayExpire, MayTake, MayWrite}
+use Rattle.pm_cli.proofs.InTurn.{all_new, at_nothing, in_turn, in_turn_from, spares-consumers, still_gone, still_settled, still_there, to_another}
 use Rattle.pm_cli.proofs.laws.in_turn_law.Goals as goal
 
 -- an actor, to whom no file is known
@@ -25,7 +25,7 @@ returns-clause-settled c = λ names.
 
 pub returns-clause-there : goal.returns-clause-there
 returns-clause-there c = λ path bytes.
-    in_turn (λ h f. map.get f path ≡ Some bytes) (λ e. (MayTake e.command path → ⊥) × (MayWrite e.command path → ⊥)) (still_there path bytes)
+    in_turn (λ h f. map.get f path ≡ Some bytes) (λ e. (MayTake e.command path → ⊥) × (MayWrite e.command path → ⊥) × (MayExpire e.command path → ⊥)) (still_there path bytes)
     c.keeps_law.ensures c.base_law.ensures.new
 
 pub returns-clause-gone : goal.returns-clause-gone
@@ -42,3 +42,6 @@ returns-clause-empty c = λ turns store last none are names.
 
 pub returns-clause-another : goal.returns-clause-another
 returns-clause-another c = to_another
+
+pub returns-clause-spared : goal.returns-clause-spared
+returns-clause-spared c = spares-consumers
