@@ -1,5 +1,5 @@
 -- An announcer keeps the laws of machines.
-use Rattle.std.proofs.Common.{◌≡◌, ◌⊎◌, inl, inr, ℕ, ◌+◌, ◌<◌, List, [], ◌∷◌, ◌++◌, is_none, if◌then◌else◌, Option, None, Some, IsSome, IfSome, refl, sym, ap, ◌∙◌, subst, arith}
+use Rattle.std.proofs.Common.{◌≡◌, ◌⊎◌, inl, inr, ℕ, ◌+◌, ◌<◌, List, [], ◌∷◌, ◌++◌, is_none, if◌then◌else◌, Option, None, Some, IsSome, IfErr, IfSome, Result, Ok, Err, refl, sym, ap, ◌∙◌, subst, arith}
 use Rattle.std.specs.FinMap as map
 use Rattle.std.proofs.lemmas.Option.{IfSome_then}
 use Rattle.pm_values.specs.declared.refusal.Refusal.{Refusal}
@@ -26,6 +26,7 @@ use Rattle.pm_machine.proofs.PhaseFacts.{both_if}
 use Rattle.pm_model_folder.specs.Changes.{Actor}
 use Rattle.pm_model_folder.specs.Ledger.{Advances, Past, Stands}
 use Rattle.pm_model_folder.specs.Paths.{floor_path}
+use Rattle.pm_read_schema.specs.Beside.{IsTold}
 use Rattle.pm_consumers.specs.Lister as consumers
 use Rattle.pm_consumers.specs.Trace as consumers_trace
 use Rattle.pm_consumers.specs.declared.phase.Phase as consuming
@@ -34,7 +35,7 @@ use Rattle.pm_consumers.proofs.Facts as consumers_facts
 use Rattle.pm_read_expiry.specs.declared.asking.Found.{Found}
 use Rattle.pm_announce.specs.Announcer.{announce_call, calls_left, end_after, next_call, reached_at, AfterConsumers, Goes, Reaches, Shown}
 use Rattle.pm_announce.specs.Announcer.{all_consumers, more_consumers}
-use Rattle.pm_announce.specs.Meaning.{Announces, Beside, Knows, KnowsBeside, KnowsFloor, KnowsOf, KnowsReading, Makes, MakesBeside, StandsBeside}
+use Rattle.pm_announce.specs.Meaning.{Announces, AnnouncerTold, Beside, Knows, KnowsBeside, KnowsFloor, KnowsOf, KnowsReading, Makes, MakesBeside, StandsBeside, TellsBeside}
 use Rattle.pm_announce.specs.Trace.{announces, Did, HasFloor, Shows}
 use Rattle.pm_announce.specs.declared.phase.Phase.{Phase}
 use Rattle.pm_announce.specs.declared.phase.Phase.TheVariants as phases
@@ -151,9 +152,9 @@ sound laws = record {
   stopped = λ m new f b called stops stands known. over_knows laws b.0 f b.1 stands new f b.1 stops;
 }
 
-keeps_of : (me : Actor) (old new : Phase) (op : Op) (f : Files) → Keeps StandsBeside (MakesBeside old) (KnowsBeside old) (KnowsBeside new) op f
-    → Keeps Stands (Makes me old) (Knows old) (Knows new) op f
-keeps_of me old new op f keeps p stands known =
+keeps_of : (me : Actor) (old : Phase) (knows : Files → Past → Type 0) (op : Op) (f : Files)
+    → Keeps StandsBeside (MakesBeside old) (KnowsBeside old) (λ f b. knows f b.1) op f → Keeps Stands (Makes me old) (Knows old) knows op f
+keeps_of me old knows op f keeps p stands known =
     let both = keeps (me, p) stands known in
     let after : Files = after_effect op.call op.effect f in (
       λ effect. at (after_effect op.call effect f) (both.0 effect),
@@ -163,20 +164,27 @@ keeps_of me old new op f keeps p stands known =
     at : (after : Files) → ((later : Beside) × MakesBeside old f (me, p) after later) → (later : Past) × Makes me old f p after later
     at after (later, change) = (later.1, change.1)
 
-    led : (after : Files) → Leads (MakesBeside old) (KnowsBeside new) f (me, p) after → Leads (Makes me old) (Knows new) f p after
+    led : (after : Files) → Leads (MakesBeside old) (λ f b. knows f b.1) f (me, p) after → Leads (Makes me old) knows f p after
     led after (later, change, known) = (later.1, change.1, known)
 
 -- what a step does whoever stands beside the past, it does to the past
-pub moves_of : (me : Actor) (old new : Phase) (before after : StoreView) → Moves StandsBeside (MakesBeside old) (KnowsBeside old) (KnowsBeside new) before after
-    → Moves Stands (Makes me old) (Knows old) (Knows new) before after
-moves_of me old new before after (inl (op, own, steps)) = inl (
+pub moves_of : (me : Actor) (old : Phase) (knows : Files → Past → Type 0) (before after : StoreView)
+    → Moves StandsBeside (MakesBeside old) (KnowsBeside old) (λ f b. knows f b.1) before after → Moves Stands (Makes me old) (Knows old) knows before after
+moves_of me old knows before after (inl (op, own, steps)) = inl (
   op,
   own,
-  Steps-weaker op (λ ops. Keeps StandsBeside (MakesBeside old) (KnowsBeside old) (KnowsBeside new) op (files_after ops))
-      (λ ops. Keeps Stands (Makes me old) (Knows old) (Knows new) op (files_after ops)) before after
-      (λ ops keeps. keeps_of me old new op (files_after ops) keeps) steps,
+  Steps-weaker op (λ ops. Keeps StandsBeside (MakesBeside old) (KnowsBeside old) (λ f b. knows f b.1) op (files_after ops))
+      (λ ops. Keeps Stands (Makes me old) (Knows old) knows op (files_after ops)) before after
+      (λ ops keeps. keeps_of me old knows op (files_after ops) keeps) steps,
 )
-moves_of me old new before after (inr (meanwhile, same)) = inr (meanwhile, λ f p stands known. same f (me, p) stands known)
+moves_of me old knows before after (inr (meanwhile, same)) = inr (meanwhile, λ f p stands known. same f (me, p) stands known)
+
+-- and what it tells of that
+pub told_of : {Step : Type 0} (old : Phase) (result : Result Step Refusal) (before after : StoreView)
+    → IfErr result (λ refusal. Moves StandsBeside (MakesBeside old) (KnowsBeside old) (TellsBeside refusal) before after)
+    → IfErr result (λ refusal. AnnouncerTold old refusal before after)
+told_of old (Ok step) before after told = tt
+told_of old (Err refusal) before after told = λ me. moves_of me old (IsTold refusal) before after told
 
 -- ---- its calls
 

@@ -1,6 +1,7 @@
 -- What an announcer knows of the table, whatever others do, and what its steps mean for the files.
 use Rattle.std.specs.Prelude.{◌≡◌, ◌≢◌, ℕ, List, [], ◌∷◌, drop, min}
 use Rattle.std.specs.FinMap as map
+use Rattle.pm_values.specs.declared.refusal.Refusal.{Refusal}
 use Rattle.pm_store.specs.Files.{Files}
 use Rattle.pm_store.specs.Store.{StoreView}
 use Rattle.pm_machine.specs.Moves.{IsKept, Moves}
@@ -9,6 +10,7 @@ use Rattle.pm_model_folder.specs.Ledger.{Advances, Past, Stands}
 use Rattle.pm_model_folder.specs.Paths.{floor_path}
 use Rattle.pm_model_expiry.specs.Expiry.{HasAnnounced, HasLeft}
 use Rattle.pm_consumer_files.specs.declared.lines.NamedConsumer.{NamedConsumer}
+use Rattle.pm_read_schema.specs.Beside.{IsTold}
 use Rattle.pm_consumers.specs.declared.phase.Phase as consuming
 use Rattle.pm_consumers.specs.declared.phase.Phase.TheVariants as consumer_listers
 use Rattle.pm_read_expiry.specs.Meaning.{KnowsFound}
@@ -70,6 +72,11 @@ Knows phases.Over f p = Unit {0}
 abbrev pub AnnouncerMoved : Phase → Phase → StoreView → StoreView → Type 0
 AnnouncerMoved old new before after = (me : Actor) → Moves Stands (Makes me old) (Knows old) (Knows new) before after
 
+-- And a step that is refused tells what is so after it.
+abbrev pub AnnouncerTold : Phase → Refusal → StoreView → StoreView → Type 0
+AnnouncerTold old refusal before after =
+    (me : Actor) → Moves Stands (Makes me old) (Knows old) (IsTold refusal) before after
+
 -- ---- the actor beside the past
 
 -- Who announces stands beside the pasts, since phases don't hold it.
@@ -84,3 +91,6 @@ MakesBeside phase f b after later = (later.0 ≡ b.0) × Makes b.0 phase f b.1 a
 
 abbrev pub KnowsBeside : Phase → Files → Beside → Type 0
 KnowsBeside phase f b = Knows phase f b.1
+
+abbrev pub TellsBeside : Refusal → Files → Beside → Type 0
+TellsBeside refusal f b = IsTold refusal f b.1

@@ -1,9 +1,9 @@
 //! The announcer of an expiry.
 
-ghost use Rattle.std.specs.Prelude.{◌≡◌, ◌<◌, IfOk, OnErr, OnOk};
+ghost use Rattle.std.specs.Prelude.{◌≡◌, ◌<◌, IfErr, IfOk, OnErr, OnOk};
 ghost use Rattle.pm_store.specs.Store.{IsLater};
 ghost use Rattle.pm_announce.specs.Announcer.{calls_left, IsAnnounced, IsReady, IsToAnnounce, Reaches};
-ghost use Rattle.pm_announce.specs.Meaning.{AnnouncerMoved};
+ghost use Rattle.pm_announce.specs.Meaning.{AnnouncerMoved, AnnouncerTold};
 ghost use Rattle.pm_announce.specs.Trace.{AnnouncerActed};
 ghost use Rattle.pm_announce.specs.declared.phase.Phase.TheVariants as phases;
 
@@ -43,6 +43,8 @@ pub fn step_announcer<F: FileStore>(
 ) -> Result<AnnounceStep, Refusal>
     requires { 0 < calls_left announcer.old }
     ensures moves { AnnouncerMoved announcer.old announcer.new (F.seen store.old) (F.seen store.new) }
+    ensures tells { IfErr result (λ refusal. AnnouncerTold announcer.old refusal (F.seen store.old)
+        (F.seen store.new)) }
     ensures acts { AnnouncerActed announcer.old announcer.new (F.seen store.old) (F.seen store.new) result }
     ensures reaches { IfOk result (λ step. Reaches step announcer.new) }
     ensures fewer { OnOk result (calls_left announcer.new < calls_left announcer.old) }

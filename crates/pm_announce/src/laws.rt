@@ -3,10 +3,14 @@
 ghost use Rattle.std.specs.Prelude.{◌≡◌, Some};
 ghost use Rattle.pm_model_folder.specs.Changes.{Actor};
 ghost use Rattle.pm_model_folder.specs.Ledger.{Advances, Past, Stands};
+ghost use Rattle.pm_store.specs.Answers.{Answers};
+ghost use Rattle.pm_store.specs.declared.answer.Answer.{Answer};
 ghost use Rattle.pm_store.specs.declared.call.Call.{Call};
 ghost use Rattle.pm_store.specs.Files.{Files};
 ghost use Rattle.pm_store.specs.Images.{MayLeave};
-ghost use Rattle.pm_announce.specs.Announcer.{next_call};
+ghost use Rattle.pm_values.specs.declared.refusal.Refusal.{Refusal};
+ghost use Rattle.pm_values.specs.declared.refusal.Refusal.TheVariants as refusals;
+ghost use Rattle.pm_announce.specs.Announcer.{next_call, Shown};
 ghost use Rattle.pm_announce.specs.Meaning.{Knows, Makes};
 ghost use Rattle.pm_announce.specs.declared.phase.Phase.{Phase};
 
@@ -22,6 +26,12 @@ pub fn known_law()
     pm_model_expiry::known_law();
     pm_read_expiry::known_law();
 }
+
+/// Whatever others do between its calls, a folder that stands shows an announcer no refusal but that memory ran out.
+pub fn causes_law()
+    ensures { (m : Phase) (call : Call) (answer : Answer) (refusal : Refusal) (f : Files) (p : Past) → Stands f p
+        → next_call m ≡ Some call → Answers call answer f → Shown m answer refusal → refusal ≡ refusals.Memory }
+{}
 
 /// Whatever a crash leaves of its next call is one of its changes.
 pub fn images_law()

@@ -15,5 +15,5 @@ mod machine;
 mod phase;
 
 pub use announcer::{AnnounceStep, Announcer, announcer_of, into_announced, step_announcer};
-pub use laws::{images_law, known_law};
+pub use laws::{causes_law, images_law, known_law};
 pub use phase::{Announced, Phase};

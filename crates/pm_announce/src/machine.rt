@@ -124,7 +124,7 @@ fn end_after(found: &Found, next: Option<u64>) -> u64
 impl PhaseMeaning for Phase {
     ghost use Rattle.pm_announce.specs.Announcer.{calls_left, reached_at, Reaches};
     ghost use Rattle.pm_announce.specs.Meaning as meaning;
-    ghost use Rattle.pm_announce.specs.Meaning.{KnowsBeside, MakesBeside, StandsBeside};
+    ghost use Rattle.pm_announce.specs.Meaning.{KnowsBeside, MakesBeside, StandsBeside, TellsBeside};
     ghost use Rattle.pm_announce.specs.Trace.{Did, Shows};
     ghost use Rattle.pm_read_expiry.specs.declared.asking.Found as founds;
 
@@ -137,6 +137,8 @@ impl PhaseMeaning for Phase {
     ghost Change = { MakesBeside };
 
     ghost knows = { KnowsBeside };
+
+    ghost tells = { TellsBeside };
 
     ghost Asked = { founds.Found };
 

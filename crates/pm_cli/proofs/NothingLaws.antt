@@ -1,5 +1,5 @@
 -- What a command promises that ran out of memory before it did anything.
-use Rattle.std.proofs.Common.{inl, ℕ, Bool, List, [], Option, None, Some, IfSome, Err, refl}
+use Rattle.std.proofs.Common.{inl, inr, ℕ, Bool, List, [], Option, None, Some, IfSome, Err, refl}
 use Rattle.pm_values.specs.declared.refusal.Refusal.{Refusal}
 use Rattle.pm_values.specs.declared.refusal.Refusal.TheVariants as refusals
 use Rattle.pm_io.specs.Sink.{SinkView}
@@ -11,8 +11,10 @@ use Rattle.pm_machine.proofs.Facts.{Traces-none}
 use Rattle.pm_model_folder.specs.Changes.{Actor}
 use Rattle.pm_model_folder.specs.Ledger.{Advances, Past, Stands}
 use Rattle.pm_read_schema.specs.AllCalls.{DidRead, ReadsTables}
+use Rattle.pm_read_schema.specs.Beside.{AnyPast}
 use Rattle.pm_read_schema.specs.declared.phase.Phase.TheVariants as readers
 use Rattle.pm_read_schema.proofs.AllCallsLemmas.{read_history}
+use Rattle.pm_read_schema.proofs.BesideFacts.{learns-none}
 use Rattle.pm_words.specs.Words.{IsInRange}
 use Rattle.pm_words.specs.declared.command.Command.{Command}
 use Rattle.pm_words.specs.declared.command.Command.TheVariants as commands
@@ -54,12 +56,12 @@ reads_none store = read_history (Err refusals.Memory) store store (read_none sto
 scanned_none : (at : Option ℕ) (out : SinkView) (store : StoreView) → scan.IsScanned at out out store store (Some refusals.Memory)
 scanned_none at out store =
     scans.refused_scanned at refusals.Memory out store store (scans.read_refused at refusals.Memory store store (read_none store))
-    (scans.read_keeps at refusals.Memory store store (reads_none store))
+    (inr (learns-none AnyPast store)) (scans.read_keeps at refusals.Memory store store (reads_none store))
 
 listed_none : (out : SinkView) (store : StoreView) → snapshots.IsListed out out store store (Some refusals.Memory)
 listed_none out store =
     lists.refused_listed refusals.Memory out store store (lists.read_refused refusals.Memory store store (read_none store))
-    (lists.read_keeps refusals.Memory store store (reads_none store))
+    (lists.read_told refusals.Memory store store (learns-none AnyPast store)) (lists.read_keeps refusals.Memory store store (reads_none store))
 
 read_of_none : (out : SinkView) (store : StoreView) → consumers.IsListed out out store store (Some refusals.Memory)
 read_of_none out store =
@@ -81,13 +83,13 @@ expired_none : (start : Start) (asked : KeepAsked) (out : SinkView) (store : Sto
     → expire.IsTableExpired start asked out out store store (Some refusals.Memory)
 expired_none start asked out store =
     expires.refused_expired start asked refusals.Memory out store store (expires.read_refused start asked refusals.Memory store store (read_none store))
-    (expires.read_beside refusals.Memory store store (read_none store)) (expires.read_keeps start asked refusals.Memory store store (reads_none store))
+    (expires.read_beside refusals.Memory store store (read_none store) (learns-none AnyPast store)) (expires.read_keeps start asked refusals.Memory store store (reads_none store))
 
 followed_none : (from : Option ℕ) (full : Bool) (out : SinkView) (store : StoreView)
     → follow.IsFollowed from full out out store store (Some refusals.Memory)
 followed_none from full out store =
     let none = read_none store in
-    ((none.0, follow.refused_first refusals.Memory (follow.of_schema (follow.of_reader none.1)) refl, none.2), follow.refuses refusals.Memory refl)
+    ((none.0, follow.refused_first refusals.Memory (follow.of_schema (follow.of_reader none.1)) refl, none.2), follow.refuses refusals.Memory refl (learns-none AnyPast store))
 
 schema_none : (store : StoreView) → HasTrace (DidSchema (Err refusals.Memory)) store store
 schema_none store = let none = read_none store in (none.0, follow.of_reader none.1, none.2)
@@ -127,7 +129,7 @@ module _ (start : Start) (input : SourceView) (out : SinkView) (store : StoreVie
       (refl, reads.listed_answers (outside input out store) (outside input out store) (Some refusals.Memory) (read_of_none out store))
   nothing_answers past (commands.Follow from None full) = (refl, followed_none from full out store)
   nothing_answers past (commands.Follow from (Some name) full) =
-      (refl, (consumed_none from name full out store, λ me. schema_refused past me (consuming name from full) refusals.Memory out store store (schema_none store)))
+      (refl, (consumed_none from name full out store, λ me. schema_refused me (consuming name from full) refusals.Memory out store store (learns-none AnyPast store)))
   nothing_answers past (commands.Compact full) =
       (refl, compacts.compacted_answers start full (outside input out store) (outside input out store) (Some refusals.Memory) (compacted_none start full out store))
   nothing_answers past (commands.Expire min max millis) = (
@@ -147,7 +149,7 @@ module _ (start : Start) (input : SourceView) (out : SinkView) (store : StoreVie
   nothing_acts past (commands.Consumers None) = reads.listed_answers (outside input out store) (outside input out store) (Some refusals.Memory) (read_of_none out store)
   nothing_acts past (commands.Follow from None full) = followed_none from full out store
   nothing_acts past (commands.Follow from (Some name) full) =
-      (consumed_none from name full out store, λ me. schema_refused past me (consuming name from full) refusals.Memory out store store (schema_none store))
+      (consumed_none from name full out store, λ me. schema_refused me (consuming name from full) refusals.Memory out store store (learns-none AnyPast store))
   nothing_acts past (commands.Compact full) =
       compacts.compacted_answers start full (outside input out store) (outside input out store) (Some refusals.Memory) (compacted_none start full out store)
   nothing_acts past (commands.Expire min max millis) =

@@ -3,35 +3,36 @@ use Rattle.std.proofs.Common.{◌≡◌, ◌⊎◌, inl, inr, ℕ, zero, suc, �
 use Rattle.std.specs.List.{flat_map, range_with_len}
 use Rattle.pm_base.specs.Known.{and_then}
 use Rattle.pm_values.specs.declared.refusal.Refusal.{Refusal}
+use Rattle.pm_values.specs.declared.refusal.Refusal.TheVariants as refusals
 use Rattle.pm_io.specs.Sink.{SinkView, TookPrefix}
 use Rattle.pm_store.specs.Files.{Files}
 use Rattle.pm_store.specs.Store.{StoreView}
+use Rattle.pm_machine.specs.Trace.{Event, HasTrace}
 use Rattle.pm_schema.specs.declared.schema.TableSchema.{TableSchema}
 use Rattle.pm_snapshot.specs.Names.{greatest}
 use Rattle.pm_model_history.specs.History.{Entry, History, IsTableOf, no_table, table}
 use Rattle.pm_model_following.specs.Following.{frame}
 use Rattle.pm_model_folder.specs.Changes.{Actor}
-use Rattle.pm_model_folder.specs.Ledger.{Past, count_of}
+use Rattle.pm_model_folder.specs.Ledger.{Past, Stands, count_of}
 use Rattle.pm_draft.specs.Built.{IsBuilt}
 use Rattle.pm_beside.specs.Bringing.{BringsBeside}
-use Rattle.pm_read_schema.specs.Beside.{AnyPast}
-use Rattle.pm_read_schema.proofs.BesideFacts.{PastStays}
-use Rattle.pm_move_consumer.specs.Mover.{IsMoving}
-use Rattle.pm_move_consumer.specs.MoverAllCalls.{MovesOn}
+use Rattle.pm_move_consumer.specs.Mover.{IsMoving, Moving}
+use Rattle.pm_move_consumer.specs.MoverAllCalls.{DidMove, MovesOn}
 use Rattle.pm_move_consumer.specs.MoverMeaning.{IsPrinted, move_by}
 use Rattle.pm_read_frame.specs.Frames.{AreFramesFrom, IsFrameOf, joined}
 use Rattle.pm_read_frame.specs.Meaning.{HasOneLog, IsFrame}
 use Rattle.pm_command_follow.specs.Follow.{TellsChanges}
-use Rattle.pm_command_follow.specs.Pieces.{AreReads, LearnsFrame, PieceBeside}
+use Rattle.pm_command_follow.specs.Pieces.{IsCommittedOf, LearnsFrame, PieceBeside, PrintsFrame, RefusesFrame}
 use Rattle.pm_command_follow.proofs.KnownLemmas.{FrameKnown, FramesLater, FramesNext, joined_push, length_push}
 use Rattle.pm_command_follow.proofs.LearnLemmas.{IsKeptOn, count_on, table_on}
 use Rattle.pm_command_follow.proofs.TextLemmas.{and_then_nothing, and_then_twice}
-use Rattle.pm_command_consume.specs.Beside.{MayStep, Steps, StepsOf, StepsStill}
+use Rattle.pm_command_follow.proofs.WhyLemmas.{frame_told}
+use Rattle.pm_command_consume.specs.Beside.{IsToldTo, MayStep, Steps, StepsOf, StepsStill}
 use Rattle.pm_command_consume.specs.Consume.{moving_from}
 use Rattle.pm_command_consume.specs.Pieces.{BringsFrame, BringsFrames, FramesBeside, HandsBeside, HasBrought, IsListed}
 use Rattle.pm_command_consume.specs.declared.consuming.Consuming.{Consuming}
 use Rattle.pm_command_consume.specs.declared.place.Place.{Place}
-use Rattle.pm_command_consume.proofs.BringLemmas.{bring_known, bring_none, bring_then, bring_weaker, bring_with, learned, move_brings, reads_bring, step_weaker, steps_still}
+use Rattle.pm_command_consume.proofs.BringLemmas.{bring_known, bring_none, bring_then, bring_weaker, bring_with, learned, move_brings, step_weaker, steps_still, why_brings}
 
 -- what the law of frames says of their text
 abbrev pub FramesText : Type 0
@@ -99,20 +100,29 @@ module _ (me : Actor) (s : TableSchema) (c : Consuming) where
   -- ---- a frame handed out
 
   pub frame_handed : FrameKnown → FramesLater → FramesText → (p later : Place) (result : Result (List ℕ) Refusal) (out out_after : SinkView) (before middle after : StoreView)
-      → HasOneLog s → p.next ≤ greatest → IsMoving (moving_from c p) → PieceBeside (LearnsFrame s p.next) AreReads out out_after before middle None
+      → HasOneLog s → p.next ≤ greatest → IsMoving (moving_from c p) → PieceBeside (LearnsFrame s p.next) (RefusesFrame s p.next) out out_after before middle None
       → ((text : List ℕ) → MovesOn (move_by me (moving_from c p) text) result middle after) → HandsBeside me s c p out out_after before after (Ok later)
   frame_handed known later_law law p later result out out_after before middle after log most is (text, learns, taken) moves =
       (text, taken, frame_brings known later_law law p text result before middle after log most is learns (moves text))
 
-  pub move_refused : FrameKnown → FramesLater → FramesText → (p : Place) (e : Refusal) (out out_after : SinkView) (before middle after : StoreView) → HasOneLog s
-      → p.next ≤ greatest → IsMoving (moving_from c p) → PieceBeside (LearnsFrame s p.next) AreReads out out_after before middle None
-      → ((text : List ℕ) → MovesOn (move_by me (moving_from c p) text) (Err e) middle after) → HandsBeside me s c p out out_after before after (Err e)
-  move_refused known later law p e out out_after before middle after log most is piece moves =
-      inl (frame_handed known later law p p (Err e) out out_after before middle after log most is piece moves)
+  -- a move that is refused tells nothing
+  none_told : (m : Moving) (e : Refusal) (own : List Event) → DidMove m (Err e) own → (f : Files) (q : Past) → IsToldTo c e f q
+  none_told m refusals.Memory own shows f q = tt
+  none_told m (refusals.StoreFault path) own shows f q = tt
+  none_told m (refusals.ConsumerMoved found) own shows f q = tt
+  none_told m e own shows f q = absurd shows
 
-  pub frame_refused : PastStays → FrameKnown → (p : Place) (e : Refusal) (out out_after : SinkView) (before after : StoreView) → p.next ≤ greatest
-      → PieceBeside (LearnsFrame s p.next) AreReads out out_after before after (Some e) → HandsBeside me s c p out out_after before after (Err e)
-  frame_refused past known p e out out_after before after most (inl (text, learns, (is, failed, took))) = inr (inl (
+  pub move_refused : FrameKnown → FramesLater → FramesText → (p : Place) (e : Refusal) (out out_after : SinkView) (before middle after : StoreView) → HasOneLog s
+      → p.next ≤ greatest → IsMoving (moving_from c p) → PieceBeside (LearnsFrame s p.next) (RefusesFrame s p.next) out out_after before middle None
+      → ((text : List ℕ) → MovesOn (move_by me (moving_from c p) text) (Err e) middle after) → HasTrace (DidMove (moving_from c p) (Err e)) middle after
+      → HandsBeside me s c p out out_after before after (Err e)
+  move_refused known later law p e out out_after before middle after log most is piece moves (own, shows, trace) =
+      let handed = frame_handed known later law p p (Err e) out out_after before middle after log most is piece moves in
+      inl (handed.0, handed.1, handed.2, none_told (moving_from c p) e own shows)
+
+  pub frame_refused : FrameKnown → (p : Place) (e : Refusal) (out out_after : SinkView) (before after : StoreView) → p.next ≤ greatest
+      → PrintsFrame s p.next out out_after before after (Some e) → PieceBeside (LearnsFrame s p.next) (RefusesFrame s p.next) out out_after before after (Some e) → HandsBeside me s c p out out_after before after (Err e)
+  frame_refused known p e out out_after before after most piece (inl (text, learns, (is, failed, took))) = inr (inl (
     text,
     is,
     took,
@@ -120,10 +130,11 @@ module _ (me : Actor) (s : TableSchema) (c : Consuming) where
         (λ f q. IsListed s p.next q.history × IsFrameOf q.history p.next text) (λ f q. IsFrameOf q.history p.next text) before after (λ f q so. so)
         (λ f q stands so. so.1) (print_brings (λ next shown. ⊥) known p.next text before after most learns),
   ))
-  frame_refused past known p e out out_after before after most (inr (same, trace)) = inr (inr (
+  frame_refused known p e out out_after before after most piece (inr (same, told)) = inr (inr (
     same,
-    bring_known me (StepsStill me c) (λ f q. IsListed s p.next q.history) AnyPast AnyPast (λ f q. Unit {0}) before after (λ f q so. tt) (λ f q stands so. tt)
-        (reads_bring me c past before after trace),
+    bring_known me (StepsStill me c) (λ f q. IsListed s p.next q.history) (IsCommittedOf s p.next) (IsToldTo c e) (IsToldTo c e) before after
+        (λ f q listed. (listed.is, most, listed.within)) (λ f q stands known. known)
+        (why_brings me c (λ next shown. ⊥) (IsCommittedOf s p.next) e before after (frame_told c.from s p.next e out out_after before after piece told)),
   ))
 
   -- ---- frame by frame
@@ -213,9 +224,17 @@ module _ (me : Actor) (s : TableSchema) (c : Consuming) where
   pub frames_stopped : FramesLater → FramesNext → (p now_at : Place) (latest : ℕ) (e : Refusal) (first middle last : SinkView) (store now after : StoreView)
       → p.next ≤ now_at.next → now_at.next ≤ latest → HasBrought me s c p.next latest (now_at.next - p.next) first middle store now
       → HandsBeside me s c now_at middle last now after (Err e) → FramesBeside me s c p latest first last store after (Some e)
-  frames_stopped later next p now_at latest e first middle last store now after low within (frames, size, taken, brings) (inl (text, took, frame_comes)) =
-      let more = more_brought later next p.next latest now_at.next frames text first middle last store now after within (omega (arith, size, low)) taken brings took frame_comes in
-      (frames ++ text ∷ [], inl (more.0, more.1))
+  frames_stopped later next p now_at latest e first middle last store now after low within (frames, size, taken, brings) (inl (text, took, frame_comes, none)) =
+      let more = more_brought later next p.next latest now_at.next frames text first middle last store now after within (omega (arith, size, low)) taken brings took frame_comes in (
+        frames ++ text ∷ [],
+        inl (
+          more.0,
+          more.1,
+          bring_known me (Steps me c p.next (frames ++ text ∷ [])) (λ f q. IsListed s latest q.history) (λ f q. IsListed s latest q.history)
+              (λ f q. IsListed s latest q.history × AreFramesFrom q.history p.next (frames ++ text ∷ [])) (IsToldTo c e) store after (λ f q so. so)
+              (λ f q stands so. none f q) more.1,
+        ),
+      )
   frames_stopped later next p now_at latest e first middle last store now after low within (frames, size, taken, brings) (inr (inl (text, is, took, frame_comes))) = (
     frames,
     inr (
@@ -228,24 +247,33 @@ module _ (me : Actor) (s : TableSchema) (c : Consuming) where
           (λ f q stands so. so) frame_comes),
     ),
   )
-  frames_stopped later next p now_at latest e first middle last store now after low within (frames, size, taken, brings) (inr (inr (same, none))) = (
+  frames_stopped later next p now_at latest e first middle last store now after low within (frames, size, taken, brings) (inr (inr (same, why))) = (
     frames,
     inl (
       ap (λ (out : SinkView). out.taken) same ∙ taken,
       bring_then me (Steps me c p.next frames) (λ f q. IsListed s latest q.history) (λ f q. IsListed s latest q.history × AreFramesFrom q.history p.next frames)
           (λ f q. IsListed s latest q.history × AreFramesFrom q.history p.next frames) store now after brings
-          (bring_weaker me (StepsStill me c) (Steps me c p.next frames) (λ f q. IsListed s latest q.history × AreFramesFrom q.history p.next frames)
-          (λ f q. (IsListed s latest q.history × AreFramesFrom q.history p.next frames) × IsListed s now_at.next q.history)
-          (λ f q. (IsListed s latest q.history × AreFramesFrom q.history p.next frames) × Unit {0})
-          (λ f q. IsListed s latest q.history × AreFramesFrom q.history p.next frames) now after (steps_still me c p.next frames)
-          (λ f q so. (so, lower q.history so.0)) (λ f q stands so. so.0)
+          (still (λ f q. (IsListed s latest q.history × AreFramesFrom q.history p.next frames) × IsToldTo c e f q)
+          (λ f q. IsListed s latest q.history × AreFramesFrom q.history p.next frames) (λ f q stands so. so.0)
           (bring_with me c (λ next shown. ⊥) (λ h. IsListed s latest h × AreFramesFrom h p.next frames) (frames_on later s p.next latest frames)
-          (λ f q. IsListed s now_at.next q.history) (λ f q. Unit {0}) now after none)),
+          (λ f q. IsListed s now_at.next q.history) (IsToldTo c e) now after why)),
+      bring_then me (Steps me c p.next frames) (λ f q. IsListed s latest q.history) (λ f q. IsListed s latest q.history × AreFramesFrom q.history p.next frames)
+          (IsToldTo c e) store now after brings
+          (still (λ f q. (IsListed s latest q.history × AreFramesFrom q.history p.next frames) × IsToldTo c e f q) (IsToldTo c e) (λ f q stands so. so.1)
+          (bring_with me c (λ next shown. ⊥) (λ h. IsListed s latest h × AreFramesFrom h p.next frames) (frames_on later s p.next latest frames)
+          (λ f q. IsListed s now_at.next q.history) (IsToldTo c e) now after why)),
     ),
   )
     where
       lower : (h : History) → IsListed s latest h → IsListed s now_at.next h
       lower h listed = let high = listed.within in record { is = listed.is; plain = listed.plain; within = omega (arith, within, high) }
+
+      still : (has knows : Files → Past → Type 0) → ((f : Files) (q : Past) → Stands f q → has f q → knows f q)
+          → BringsBeside me (StepsStill me c) (λ f q. (IsListed s latest q.history × AreFramesFrom q.history p.next frames) × IsListed s now_at.next q.history) has now after
+          → BringsBeside me (Steps me c p.next frames) (λ f q. IsListed s latest q.history × AreFramesFrom q.history p.next frames) knows now after
+      still has knows leads = bring_weaker me (StepsStill me c) (Steps me c p.next frames) (λ f q. IsListed s latest q.history × AreFramesFrom q.history p.next frames)
+          (λ f q. (IsListed s latest q.history × AreFramesFrom q.history p.next frames) × IsListed s now_at.next q.history) has knows now after
+          (steps_still me c p.next frames) (λ f q so. (so, lower q.history so.0)) leads
 
   pub all_brought : (p now_at : Place) (latest : ℕ) (first last : SinkView) (store after : StoreView) → p.next ≤ now_at.next → latest < now_at.next
       → (now_at.next ≡ p.next) ⊎ (now_at.next ≤ suc latest) → HasBrought me s c p.next latest (now_at.next - p.next) first last store after

@@ -9,7 +9,6 @@ use Rattle.pm_store.specs.Files.{Files, files_after}
 use Rattle.pm_store.specs.Store.{StoreView}
 use Rattle.pm_store.proofs.StepLaws.{Came-weaker}
 use Rattle.pm_machine.specs.Moves.{IsKept}
-use Rattle.pm_machine.specs.Trace.{HasTrace}
 use Rattle.pm_model_consumers.specs.Claims.{Claim, Said, known_at, with_claim}
 use Rattle.pm_model_history.specs.History.{History}
 use Rattle.pm_model_folder.specs.Changes.{Actor}
@@ -19,17 +18,15 @@ use Rattle.pm_model_folder.specs.Paths.{consumer_path}
 use Rattle.pm_model_folder.proofs.Facts.{goes_on}
 use Rattle.pm_beside.specs.Bringing.{BringsBeside, OthersApart, Through}
 use Rattle.pm_beside.proofs.BringLemmas.{brings-carries, brings-none, brings-then, brings-weaker, through-weaker}
-use Rattle.pm_read_schema.specs.Beside.{AnyPast, Learns, OthersAdvance}
-use Rattle.pm_read_schema.proofs.BesideFacts.{PastStays}
+use Rattle.pm_read_schema.specs.Beside.{Learns, OthersAdvance}
 use Rattle.pm_register.specs.Meaning.{Registers}
 use Rattle.pm_register.specs.Registrar.{registering}
 use Rattle.pm_move_consumer.specs.Mover.{IsMoving}
 use Rattle.pm_move_consumer.specs.MoverAllCalls.{ItChanges, MovesOn}
 use Rattle.pm_move_consumer.specs.MoverMeaning.{IsMovedPast, IsPrinted, move_by}
-use Rattle.pm_command_follow.specs.Pieces.{AreReads}
 use Rattle.pm_command_follow.proofs.LearnLemmas.{IsKeptOn}
-use Rattle.pm_command_follow.proofs.ReadLemmas.{reads_learn}
-use Rattle.pm_command_consume.specs.Beside.{MayStep, Steps, StepsOf, StepsStill}
+use Rattle.pm_command_follow.specs.Follow.{IsToldFrom}
+use Rattle.pm_command_consume.specs.Beside.{IsToldTo, MayStep, Steps, StepsOf, StepsStill}
 use Rattle.pm_command_consume.specs.Consume.{moving_from}
 use Rattle.pm_command_consume.specs.declared.consuming.Consuming.{Consuming}
 use Rattle.pm_command_consume.specs.declared.place.Place.{Place}
@@ -78,15 +75,6 @@ module _ (me : Actor) (c : Consuming) where
       brings-weaker Stands (λ f p changed q. q ≡ p) (MayStep me c Printed) OthersAdvance (OthersApart me) knew knew knows knows before after
       (λ f changed p q same. inl same) (λ f changed p q apart. (apart.0, apart.2)) (λ f p known. known) (λ f p stands known. known)
       (brings-carries Stands OthersAdvance knew knows before after learns)
-
-  -- calls that read
-  pub reads_bring : PastStays → (before after : StoreView) → HasTrace AreReads before after → BringsBeside me (StepsStill me c) AnyPast AnyPast before after
-  reads_bring past before after (own, are, trace) =
-      learned (λ next text. ⊥) AnyPast AnyPast before after (reads_learn past (λ h. Unit {0}) (λ h later goes known. tt) own before after are trace)
-
-  pub still_then : (first middle after : StoreView) → BringsBeside me (StepsStill me c) AnyPast AnyPast first middle
-      → BringsBeside me (StepsStill me c) AnyPast AnyPast middle after → BringsBeside me (StepsStill me c) AnyPast AnyPast first after
-  still_then = bring_then me (StepsStill me c) AnyPast AnyPast AnyPast
 
   pub steps_still : (start : ℕ) (moved : List (List ℕ)) (f after : Files) (p q : Past) → StepsStill me c f p after q → Steps me c start moved f p after q
   steps_still start moved =
@@ -195,3 +183,17 @@ module _ (me : Actor) (c : Consuming) where
         (λ f p. IsPrinted (move_by me (moving_from c place) frame) p.history) (λ f p. IsPrinted (move_by me (moving_from c place) frame) p.history) before after
         (λ f changed p q change. changes_step result f changed p q change) (λ f changed p q apart. (apart.0, apart.2)) (λ f p known. known)
         (λ f p stands known. known) moves
+
+-- ---- a refusal
+
+-- what `follow` would tell
+told_to : (c : Consuming) (e : Refusal) (f : Files) (p : Past) → IsToldFrom c.from e f p → IsToldTo c e f p
+told_to c (refusals.ConsumerMoved found) f p told = tt
+told_to c (refusals.BelowFloor next floor) f p told = tt
+told_to c e f p told = told
+
+pub why_brings : (me : Actor) (c : Consuming) (Printed : ℕ → List ℕ → Type 0) (knew : Files → Past → Type 0) (e : Refusal) (before after : StoreView)
+    → Learns knew (IsToldFrom c.from e) before after → BringsBeside me (MayStep me c Printed) knew (IsToldTo c e) before after
+why_brings me c Printed knew e before after why =
+    bring_known me (MayStep me c Printed) knew knew (IsToldFrom c.from e) (IsToldTo c e) before after (λ f q known. known) (λ f q stands told. told_to c e f q told)
+    (learned me c Printed knew (IsToldFrom c.from e) before after why)

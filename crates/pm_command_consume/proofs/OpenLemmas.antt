@@ -1,113 +1,55 @@
 -- How a following with a consumer opens, and goes on from there, whatever others do: what its calls bring to any past.
-use Rattle.std.proofs.Common.{◌≡◌, inl, inr, ℕ, suc, ◌+◌, ◌≤◌, Bool, true, false, List, [], ◌∷◌, ◌++◌, length, slice_get, codes, Option, None, Some, Result, Ok, Err, refl, sym, ap, subst, ◌∙◌, append-nil, append_assoc, arith}
+use Rattle.std.proofs.Common.{◌≡◌, inl, inr, ℕ, suc, ◌+◌, ◌-◌, ◌<◌, ◌≤◌, Bool, true, false, List, [], ◌∷◌, ◌++◌, length, slice_get, Option, None, Some, Result, Ok, Err, refl, sym, ap, subst, ◌∙◌, append-nil, append_assoc, arith}
 use Rattle.pm_base.specs.Known.{and_then}
 use Rattle.pm_values.specs.declared.refusal.Refusal.{Refusal}
 use Rattle.pm_values.specs.declared.refusal.Refusal.TheVariants as refusals
 use Rattle.pm_io.specs.Sink.{SinkView, TookPrefix}
 use Rattle.pm_store.specs.Files.{Files}
 use Rattle.pm_store.specs.Store.{StoreView}
-use Rattle.pm_store.specs.declared.call.Call.{Call}
-use Rattle.pm_store.specs.declared.call.Call.TheVariants as calls
 use Rattle.pm_machine.specs.Trace.{Event, HasTrace}
 use Rattle.pm_schema.specs.declared.schema.TableSchema.{TableSchema}
 use Rattle.pm_snapshot.specs.Names.{greatest}
 use Rattle.pm_model_history.specs.History.{Entry, History, IsTableOf, table}
 use Rattle.pm_model_folder.specs.Changes.{Actor}
 use Rattle.pm_model_folder.specs.Ledger.{Past, Stands, count_of}
-use Rattle.pm_model_folder.specs.Paths.{consumer_path}
 use Rattle.pm_model_folder.proofs.Facts.{goes_on}
 use Rattle.pm_draft.specs.Built.{IsBuilt}
 use Rattle.pm_beside.specs.Bringing.{BringsBeside, OthersApart}
 use Rattle.pm_beside.proofs.BringLemmas.{brings-meanwhile}
-use Rattle.pm_read_schema.specs.Beside.{AnyPast, Learns}
-use Rattle.pm_read_schema.proofs.AllCallsLemmas.{ready_calls, shows_calls}
+use Rattle.pm_read_schema.specs.Beside.{AnyPast, IsTold, Learns}
 use Rattle.pm_read_schema.proofs.BesideFacts.{PastStays, learns-then, learns-weaker}
-use Rattle.pm_read_schema.proofs.StillLemmas.{AreStill}
 use Rattle.pm_read_latest.specs.AllCalls.{DidLatest}
 use Rattle.pm_read_consumer.specs.AllCalls.{DidFind}
-use Rattle.pm_read_consumer.specs.Reader as finder
-use Rattle.pm_read_consumer.specs.Reader.{found_as}
-use Rattle.pm_read_consumer.specs.Trace as finds
+use Rattle.pm_read_consumer.specs.Meaning.{IsFoundIn}
 use Rattle.pm_read_consumer.specs.declared.phase.FoundConsumer.{FoundConsumer}
-use Rattle.pm_read_consumer.specs.declared.phase.Phase.{Phase}
-use Rattle.pm_read_consumer.specs.declared.phase.Phase.TheVariants as phases
 use Rattle.pm_register.specs.AllCalls.{LeavesBeside, RegistersAmong}
 use Rattle.pm_register.specs.Meaning.{IsWithin, Registers}
 use Rattle.pm_register.specs.Registrar.{Registering, registering}
 use Rattle.pm_move_consumer.specs.MoverAllCalls.{DidMove}
+use Rattle.pm_scan.specs.Beside.{TellsBeside}
 use Rattle.pm_read_frame.specs.AllCalls.{DidFrame}
 use Rattle.pm_read_frame.specs.Frames.{AreFramesFrom, joined}
 use Rattle.pm_command_follow.specs.Beside.{IsFirstOf, IsStartOf}
-use Rattle.pm_command_follow.specs.Follow.{DidSchema, HasSchema, ShowsSchema, TellsChanges, Then, of_producer, of_reader, of_unbuilt}
-use Rattle.pm_command_follow.specs.Pieces.{AreReads, IsRead, IsStarting, LearnsStart, LearnsTable, PieceBeside, PrintsStart}
+use Rattle.pm_command_follow.specs.Follow.{HasSchema, LearnsWhy, TellsChanges, Then}
+use Rattle.pm_command_follow.specs.Pieces.{IsStarting, LearnsStart, LearnsTable, PieceBeside, PrintsStart}
 use Rattle.pm_command_follow.specs.Printed.{count_from}
 use Rattle.pm_command_follow.proofs.JoinLemmas.{in_a_row}
 use Rattle.pm_command_follow.proofs.KnownLemmas.{FirstLaw, any_trace, first_of, joined_push, length_push, starting_on}
 use Rattle.pm_command_follow.proofs.LearnLemmas.{count_on, learns_with, table_on}
-use Rattle.pm_command_follow.proofs.ReadLemmas.{ended_reads, failed_reads, list_is, listing_reads, no_call, no_reads, read_is, reads_append, reads_learn, some_same}
 use Rattle.pm_command_follow.proofs.TextLemmas.{and_then_nothing, and_then_twice}
-use Rattle.pm_command_consume.specs.Beside.{BringsFirst, ConsumesBeside, HasBegun, Steps, StepsStill, TriesTable, breaks_frame, breaks_table, prints, refuses, refuses_table, stops}
+use Rattle.pm_command_follow.proofs.WhyLemmas.{table_told, why_above, why_after, why_listing, why_read}
+use Rattle.pm_command_consume.specs.Beside.{BringsFirst, ConsumesBeside, HasBegun, IsToldTo, Steps, StepsStill, breaks_frame, breaks_table, prints, refuses, stops}
 use Rattle.pm_command_consume.specs.Consume.{FindsUnsettled, HandsOut, Joins, Lists, Opens, joined as joined_so, moving_from, place_at, settled}
-use Rattle.pm_command_consume.specs.Pieces.{BringsFrames, FramesBeside, HandsFrames, HandsPiece, HasOpened, IsListed, JoinsBeside, OpenedBeside}
+use Rattle.pm_command_consume.specs.Pieces.{BringsFrames, DidJoin, FramesBeside, HandsFrames, HandsPiece, HasOpened, IsListed, JoinsBeside, OpenedBeside}
 use Rattle.pm_command_consume.specs.Place.{StandsAs}
 use Rattle.pm_command_consume.specs.declared.consuming.Consuming.{Consuming}
 use Rattle.pm_command_consume.specs.declared.place.Place.{Place}
 use Rattle.pm_command_consume.specs.declared.place.Standing.TheVariants as standings
-use Rattle.pm_command_consume.proofs.BringLemmas.{bring_known, bring_none, bring_then, bring_weaker, bring_with, learned, reads_bring, registers_step, steps_still, still_then}
+use Rattle.pm_command_consume.proofs.BringLemmas.{bring_known, bring_none, bring_then, bring_weaker, bring_with, learned, registers_step, steps_still, why_brings}
 use Rattle.pm_command_consume.proofs.PieceLemmas.{HasJoined, opens_with, opens_without, settled_at}
 use Rattle.pm_command_consume.proofs.StageLemmas.{plain_names}
 
--- ---- the calls that read
-
-still_reads : (own : List Event) → AreStill own → AreReads own
-still_reads [] still = tt
-still_reads (event ∷ own) (one, more) = ((λ effect f. one f effect), still_reads own more)
-
-schema_reads : (s : TableSchema) (own : List Event) → HasSchema s own → AreReads own
-schema_reads s own (tells, built, did) = still_reads own (ready_calls s own did)
-
-shows_reads : (e : Refusal) (own : List Event) → ShowsSchema e own → AreReads own
-shows_reads e own (of_reader shows) = still_reads own (shows_calls e own shows)
-shows_reads e own (of_producer s none is did) = still_reads own (ready_calls s own did)
-shows_reads e own (of_unbuilt s tells why did) = still_reads own (ready_calls s own did)
-
-found_reads : (name : List ℕ) (r : FoundConsumer) (own : List Event) → finds.HasFound name r own → AreReads own
-found_reads name r own (says, is) = subst AreReads (sym is) (read_is (consumer_path name), tt)
-
-find_so_far : (name : List ℕ) (m : Phase) (own : List Event) → finds.DidSoFar name m own → AreReads own
-find_so_far name (phases.Read path) own (at, none) = no_reads own none
-find_so_far name (phases.Ready r) own did = found_reads name r own did
-find_so_far name phases.Over own did = absurd did
-
-find_next : (m : Phase) (call : Call) → finder.next_call m ≡ Some call → IsRead call
-find_next (phases.Read path) call is = subst IsRead (some_same (calls.Read path) call is) (read_is path)
-find_next (phases.Ready r) call is = no_call call is
-find_next phases.Over call is = no_call call is
-
-find_shows : (name : List ℕ) (e : Refusal) (own : List Event) → finds.Shows name e own → AreReads own
-find_shows name refusals.Memory own ends =
-    ended_reads finder.next_call (finds.DidSoFar name) (find_so_far name) find_next finds.MayTakeMemory own ends
-find_shows name (refusals.StoreFault path) own failed = failed_reads finder.next_call (finds.DidSoFar name) (find_so_far name) find_next path own failed
-find_shows name (refusals.Damaged path place) own (bytes, at, zero, bad, is) = subst AreReads (sym is) (read_is (consumer_path name), tt)
-find_shows name other own shows = absurd shows
-
-find_reads : (name : List ℕ) (made : Result FoundConsumer Refusal) (own : List Event) → DidFind name made own → AreReads own
-find_reads name (Ok r) own did = found_reads name r own did
-find_reads name (Err e) own shows = find_shows name e own shows
-
-latest_reads : (latest : ℕ) (own : List Event) → DidLatest (Ok latest) own → AreReads own
-latest_reads latest own (names, last, is) = subst AreReads (sym is) (list_is (codes "snapshot"), tt)
-
-then_reads : (First Next : List Event → Type 0) (own : List Event) → ((own : List Event) → First own → AreReads own)
-    → ((own : List Event) → Next own → AreReads own) → Then First Next own → AreReads own
-then_reads First Next own first next (earlier, later, did, does, is) = subst AreReads (sym is) (reads_append earlier later (first earlier did) (next later does))
-
-unsettled_reads : (s : TableSchema) (c : Consuming) (found : Option (List ℕ)) (own : List Event) → FindsUnsettled s c found own → AreReads own
-unsettled_reads s c found own (none, (said, finds_so)) =
-    then_reads (HasSchema s) (DidFind c.name (Ok (found_as found said))) own (schema_reads s) (find_reads c.name (Ok (found_as found said))) finds_so
-
-so_traced : (P : List Event → Type 0) (before after : StoreView) → ((own : List Event) → P own → AreReads own) → HasTrace P before after → HasTrace AreReads before after
-so_traced P before after reads (own, did, trace) = (own, reads own did, trace)
+-- ---- calls one after another
 
 any_twice : (first middle after : StoreView) → HasTrace (λ own. Unit {0}) first middle → HasTrace (λ own. Unit {0}) middle after → HasTrace (λ own. Unit {0}) first after
 any_twice first middle after one other =
@@ -134,50 +76,37 @@ opens_so s c p full text first after (own, opens, trace) = opens_schema s c p fu
 
 -- ---- where nothing is printed
 
-pub schema_refused : PastStays → (me : Actor) (c : Consuming) (e : Refusal) (out : SinkView) (store after : StoreView) → HasTrace (DidSchema (Err e)) store after
+pub schema_refused : (me : Actor) (c : Consuming) (e : Refusal) (out : SinkView) (store after : StoreView) → LearnsWhy c.from e store after
     → ConsumesBeside me c out out store after (Some e)
-schema_refused past me c e out store after did =
-    refuses e refl (reads_bring me c past store after (so_traced (DidSchema (Err e)) store after (shows_reads e) did))
+schema_refused me c e out store after why = refuses e refl (why_brings me c (λ next text. ⊥) AnyPast e store after why)
 
-module _ (past : PastStays) (me : Actor) (s : TableSchema) (c : Consuming) where
-  reads_twice : (P Q : List Event → Type 0) (first middle after : StoreView) → ((own : List Event) → P own → AreReads own)
-      → ((own : List Event) → Q own → AreReads own) → HasTrace P first middle → HasTrace Q middle after
-      → BringsBeside me (StepsStill me c) AnyPast AnyPast first after
-  reads_twice P Q first middle after one other did does =
-      still_then me c first middle after (reads_bring me c past first middle (so_traced P first middle one did))
-      (reads_bring me c past middle after (so_traced Q middle after other does))
+module _ (me : Actor) (s : TableSchema) (c : Consuming) where
+  pub file_refused : (e : Refusal) (out : SinkView) (first middle after : StoreView) → LearnsTable s first middle → HasTrace (DidFind c.name (Err e)) middle after
+      → Learns AnyPast (IsTold e) middle after → ConsumesBeside me c out out first after (Some e)
+  file_refused e out first middle after learns did told =
+      schema_refused me c e out first after
+      (why_after (λ e own. DidFind c.name (Err e) own) c.from (λ f p. IsTableOf s p.history) e first middle after (λ id latest own shows. shows) learns did told)
 
-  pub file_refused : (e : Refusal) (out : SinkView) (first middle after : StoreView) → HasTrace (HasSchema s) first middle
-      → HasTrace (DidFind c.name (Err e)) middle after → ConsumesBeside me c out out first after (Some e)
-  file_refused e out first middle after has did =
-      refuses e refl (reads_twice (HasSchema s) (DidFind c.name (Err e)) first middle after (schema_reads s) (find_reads c.name (Err e)) has did)
+  pub listing_refused : (e : Refusal) (out : SinkView) (first middle after : StoreView) → LearnsTable s first middle → HasTrace (DidLatest (Err e)) middle after
+      → Learns AnyPast (IsTold e) middle after → ConsumesBeside me c out out first after (Some e)
+  listing_refused e out first middle after learns did told =
+      schema_refused me c e out first after (why_listing c.from (λ f p. IsTableOf s p.history) e first middle after learns did told)
 
-  pub listing_refused : (found : Option (List ℕ)) (e : Refusal) (out : SinkView) (first middle after : StoreView) → HasTrace (FindsUnsettled s c found) first middle
-      → HasTrace (DidLatest (Err e)) middle after → ConsumesBeside me c out out first after (Some e)
-  listing_refused found e out first middle after finds_so did =
-      refuses e refl
-      (still_then me c first middle after
-      (reads_bring me c past first middle (so_traced (FindsUnsettled s c found) first middle (unsettled_reads s c found) finds_so))
-      (reads_bring me c past middle after (listing_reads e middle after did)))
-
-  pub start_refused : (found : Option (List ℕ)) (latest : ℕ) (e : Refusal) (out : SinkView) (first middle after : StoreView)
-      → HasTrace (FindsUnsettled s c found) first middle → HasTrace (DidLatest (Ok latest)) middle after → ConsumesBeside me c out out first after (Some e)
-  start_refused found latest e out first middle after finds_so did =
-      refuses e refl
-      (reads_twice (FindsUnsettled s c found) (DidLatest (Ok latest)) first middle after (unsettled_reads s c found) (latest_reads latest) finds_so did)
+  pub start_refused : (latest : ℕ) (e : Refusal) (out : SinkView) (first middle after : StoreView) → LearnsTable s first middle
+      → Learns AnyPast (λ f p. (latest ≤ greatest) × (latest ≤ count_of p.history)) middle after
+      → (id : ℕ) × (c.from ≡ Some id) × (suc latest < id) × (e ≡ refusals.NoSnapshot id latest) → ConsumesBeside me c out out first after (Some e)
+  start_refused latest e out first middle after learns listed above = schema_refused me c e out first after (why_above c.from s latest e first middle after learns listed above)
 
   -- ---- a consumer that is settled
 
-  -- the table has the schema while it is read
-  pub table_kept : (P : List Event → Type 0) (first before after : StoreView) → ((own : List Event) → P own → AreReads own) → LearnsTable s first before
-      → HasTrace P before after → LearnsTable s first after
-  table_kept P first before after reads learns (own, did, trace) =
-      learns-then AnyPast (λ f p. IsTableOf s p.history) (λ f p. IsTableOf s p.history) first before after learns
-      (reads_learn past (λ h. IsTableOf s h) (table_on s) own before after (reads own did) trace)
-
-  pub found_kept : (made : Result FoundConsumer Refusal) (first before after : StoreView) → LearnsTable s first before → HasTrace (DidFind c.name made) before after
+  -- the table has the schema while the consumer's file is read
+  pub found_kept : (r : FoundConsumer) (first before after : StoreView) → LearnsTable s first before → Learns AnyPast (IsFoundIn c.name r) before after
       → LearnsTable s first after
-  found_kept made first before after = table_kept (DidFind c.name made) first before after (find_reads c.name made)
+  found_kept r first before after learns found =
+      learns-then AnyPast (λ f p. IsTableOf s p.history) (λ f p. IsTableOf s p.history) first before after learns
+      (learns-weaker (λ f p. IsTableOf s p.history) (λ f p. IsTableOf s p.history × AnyPast f p) (λ f p. IsTableOf s p.history × IsFoundIn c.name r f p)
+      (λ f p. IsTableOf s p.history) before after (λ f p so. (so, tt)) (λ f p stands so. so.0)
+      (learns_with (λ h. IsTableOf s h) (table_on s) AnyPast (IsFoundIn c.name r) before after found))
 
   opened_bare : (start : ℕ) (first after : StoreView) → BringsBeside me (StepsStill me c) AnyPast (λ f q. IsTableOf s q.history) first after
       → BringsBeside me (StepsStill me c) AnyPast (λ f q. IsStarting s false start [] q) first after
@@ -187,8 +116,8 @@ module _ (past : PastStays) (me : Actor) (s : TableSchema) (c : Consuming) where
 
   pub settled_beside : (r : FoundConsumer) (p : Place) (out : SinkView) (first middle after : StoreView) → StandsAs r (standings.Settled p)
       → HasTrace (HasSchema s) first middle → LearnsTable s first middle → HasTrace (DidFind c.name (Ok r)) middle after
-      → OpenedBeside me s c first out out after (Ok p)
-  settled_beside r p out first middle after stands has learns did = (
+      → Learns AnyPast (IsFoundIn c.name r) middle after → OpenedBeside me s c first out out after (Ok p)
+  settled_beside r p out first middle after stands has learns did found = (
     false,
     ([], settled_at s c r p first middle after stands has did),
     (
@@ -196,7 +125,7 @@ module _ (past : PastStays) (me : Actor) (s : TableSchema) (c : Consuming) where
       (
         sym (and_then_nothing out.taken),
         opened_bare p.next first after
-            (learned me c (λ next text. ⊥) AnyPast (λ f q. IsTableOf s q.history) first after (found_kept (Ok r) first middle after learns did)),
+            (learned me c (λ next text. ⊥) AnyPast (λ f q. IsTableOf s q.history) first after (found_kept r first middle after learns found)),
       ),
     ),
   )
@@ -249,37 +178,60 @@ module _ (me : Actor) (s : TableSchema) (c : Consuming) where
       below : (n : ℕ) → latest ≤ n → start ≤ suc n
       below n within = omega (arith, high, within)
 
-  -- whatever the registering is answered, no call is a move
-  pub registered : (found : Option (List ℕ)) (latest start : ℕ) (first before now after : StoreView) → HasTrace (FindsUnsettled s c found) first before
+  -- whatever the registering is answered, no call is a move, and the snapshot below the start stays committed
+  pub registered_below : (found : Option (List ℕ)) (latest start : ℕ) (first before now after : StoreView) → HasTrace (FindsUnsettled s c found) first before
       → LearnsTable s first before → Learns AnyPast (λ f p. (latest ≤ greatest) × (latest ≤ count_of p.history)) before now → start ≤ suc latest
-      → JoinsBeside me (registering c.name found start) now after → BringsBeside me (StepsStill me c) AnyPast (λ f q. IsTableOf s q.history) first after
-  registered found latest start first before now after finds_so learns listed high joins =
-      bring_then me (StepsStill me c) AnyPast (λ f q. IsTableOf s q.history × IsWithin (registering c.name found start) q) (λ f q. IsTableOf s q.history) first now after
+      → JoinsBeside me (registering c.name found start) now after
+      → BringsBeside me (StepsStill me c) AnyPast (λ f q. IsTableOf s q.history × (start - 1 ≤ count_of q.history)) first after
+  registered_below found latest start first before now after finds_so learns listed high joins =
+      bring_then me (StepsStill me c) AnyPast (λ f q. IsTableOf s q.history × IsWithin (registering c.name found start) q)
+      (λ f q. IsTableOf s q.history × (start - 1 ≤ count_of q.history)) first now after
       (learned me c (λ next text. ⊥) AnyPast (λ f q. IsTableOf s q.history × IsWithin (registering c.name found start) q) first now
       (within_learned found latest start first before now (unsettled_so s c found first before finds_so).1 high learns listed))
       (bring_known me (StepsStill me c) (λ f q. IsTableOf s q.history × IsWithin (registering c.name found start) q)
       (λ f q. IsTableOf s q.history × IsWithin (registering c.name found start) q) (λ f q. IsTableOf s q.history × IsWithin (registering c.name found start) q)
-      (λ f q. IsTableOf s q.history) now after (λ f q so. so) (λ f q stands so. so.0)
+      (λ f q. IsTableOf s q.history × (start - 1 ≤ count_of q.history)) now after (λ f q so. so) (λ f q stands so. (so.0, below (count_of q.history) so.1.next))
       (bring_with me c (λ next text. ⊥) (λ h. IsTableOf s h) (table_on s) (λ f q. IsWithin (registering c.name found start) q)
       (λ f q. IsWithin (registering c.name found start) q) now after
       (bring_weaker me (Registers me (registering c.name found start)) (StepsStill me c) (λ f q. IsWithin (registering c.name found start) q)
       (λ f q. IsWithin (registering c.name found start) q) (λ f q. IsWithin (registering c.name found start) q)
       (λ f q. IsWithin (registering c.name found start) q) now after (registers_step me c found start) (λ f q so. so) (λ f q stands so. so) joins)))
+    where
+      below : (n : ℕ) → start ≤ suc n → start - 1 ≤ n
+      below n within = omega (arith, within)
 
-  any_so : (first after : StoreView) → BringsBeside me (StepsStill me c) AnyPast (λ f q. IsTableOf s q.history) first after
-      → BringsBeside me (StepsStill me c) AnyPast AnyPast first after
-  any_so first after = bring_known me (StepsStill me c) AnyPast AnyPast (λ f q. IsTableOf s q.history) AnyPast first after (λ f q so. so) (λ f q stands so. tt)
+  table_of : (start : ℕ) (first after : StoreView) → BringsBeside me (StepsStill me c) AnyPast (λ f q. IsTableOf s q.history × (start - 1 ≤ count_of q.history)) first after
+      → BringsBeside me (StepsStill me c) AnyPast (λ f q. IsTableOf s q.history) first after
+  table_of start first after = bring_known me (StepsStill me c) AnyPast AnyPast (λ f q. IsTableOf s q.history × (start - 1 ≤ count_of q.history)) (λ f q. IsTableOf s q.history)
+      first after (λ f q so. so) (λ f q stands so. so.0)
 
-  pub registering_refused : (e : Refusal) (out : SinkView) (first after : StoreView)
+  pub registered : (found : Option (List ℕ)) (latest start : ℕ) (first before now after : StoreView) → HasTrace (FindsUnsettled s c found) first before
+      → LearnsTable s first before → Learns AnyPast (λ f p. (latest ≤ greatest) × (latest ≤ count_of p.history)) before now → start ≤ suc latest
+      → JoinsBeside me (registering c.name found start) now after → BringsBeside me (StepsStill me c) AnyPast (λ f q. IsTableOf s q.history) first after
+  registered found latest start first before now after finds_so learns listed high joins =
+      table_of start first after (registered_below found latest start first before now after finds_so learns listed high joins)
+
+  -- a registering that is refused tells nothing
+  none_told : (r : Registering) (e : Refusal) (own : List Event) → DidJoin r (Err e) own → (f : Files) (p : Past) → IsToldTo c e f p
+  none_told r refusals.Memory own shows f p = tt
+  none_told r (refusals.StoreFault path) own shows f p = tt
+  none_told r (refusals.ConsumerMoved found) own shows f p = tt
+  none_told r (refusals.BelowFloor next floor) own shows f p = tt
+  none_told r e own shows f p = absurd shows
+
+  pub registering_refused : (r : Registering) (e : Refusal) (out : SinkView) (first now after : StoreView) → HasTrace (DidJoin r (Err e)) now after
       → BringsBeside me (StepsStill me c) AnyPast (λ f q. IsTableOf s q.history) first after → ConsumesBeside me c out out first after (Some e)
-  registering_refused e out first after brings = refuses e refl (any_so first after brings)
+  registering_refused r e out first now after (own, shows, trace) brings =
+      refuses e refl
+      (bring_known me (StepsStill me c) AnyPast AnyPast (λ f q. IsTableOf s q.history) (IsToldTo c e) first after (λ f q so. so)
+      (λ f q stands so. none_told r e own shows f q) brings)
 
   -- ---- the starting table
 
   tries : (start : ℕ) (e : Refusal) (out out_after : SinkView) (before after : StoreView) → PrintsStart s start out out_after before after (Some e)
-      → HasTrace (TriesTable s start) before after
-  tries start e out out_after before after (inl (text, (own, did, trace), fails)) = (own, (Ok text, did), trace)
-  tries start e out out_after before after (inr ((own, did, trace), same)) = (own, (Err e, did), trace)
+      → HasTrace (λ own. Unit {0}) before after
+  tries start e out out_after before after (inl (text, (own, did, trace), fails)) = (own, tt, trace)
+  tries start e out out_after before after (inr ((own, did, trace), same)) = (own, tt, trace)
 
   first_bare : FirstLaw → (start : ℕ) (text : List ℕ) (first after : StoreView) → TellsChanges s × IsBuilt s
       → BringsBeside me (StepsStill me c) AnyPast (λ f q. IsStarting s true start text q) first after → BringsFirst me s c start true [] 0 text first after
@@ -296,22 +248,25 @@ module _ (me : Actor) (s : TableSchema) (c : Consuming) where
       bring_then me (StepsStill me c) AnyPast (λ f q. IsTableOf s q.history) (λ f q. IsStarting s true start text q) first before after brings
       (learned me c (λ next shown. ⊥) (λ f q. IsTableOf s q.history) (λ f q. IsStarting s true start text q) before after learns)
 
-  pub table_refused : FirstLaw → (start : ℕ) (p : Place) (e : Refusal) (out out_after : SinkView) (first before after : StoreView) → c.full ≡ true
-      → TellsChanges s × IsBuilt s → HasJoined s c start p first before → BringsBeside me (StepsStill me c) AnyPast (λ f q. IsTableOf s q.history) first before
-      → PrintsStart s start out out_after before after (Some e) → PieceBeside (LearnsStart s start) (λ own. Unit {0}) out out_after before after (Some e)
+  pub table_refused : PastStays → FirstLaw → (start : ℕ) (p : Place) (e : Refusal) (out out_after : SinkView) (first before after : StoreView) → c.full ≡ true
+      → TellsChanges s × IsBuilt s → HasJoined s c start p first before
+      → BringsBeside me (StepsStill me c) AnyPast (λ f q. IsTableOf s q.history × (start - 1 ≤ count_of q.history)) first before
+      → PrintsStart s start out out_after before after (Some e) → PieceBeside (LearnsStart s start) (TellsBeside s) out out_after before after (Some e)
       → ConsumesBeside me c out out_after first after (Some e)
-  table_refused law start p e out out_after first before after asked so has brings piece (inl (text, learns, (is, failed, took))) =
+  table_refused past law start p e out out_after first before after asked so has brings piece (inl (text, learns, (is, failed, took))) =
       subst (λ (e : Refusal). ConsumesBeside me c out out_after first after (Some e)) (sym is)
       (breaks_table s start text asked
-      (in_a_row (Joins s c start) (λ own. Unit {0}) first before after has.joins
-      (any_trace (TriesTable s start) before after (tries start e out out_after before after piece)))
-      took (first_bare law start text first after so (starts_with start text first before after brings learns)))
-  table_refused law start p e out out_after first before after asked so has brings piece (inr (same, any)) =
-      refuses_table e s start before same asked (any_so first before brings) (tries start e out out_after before after piece)
+      (in_a_row (Joins s c start) (λ own. Unit {0}) first before after has.joins (tries start e out out_after before after piece))
+      took (first_bare law start text first after so (starts_with start text first before after (table_of start first before brings) learns)))
+  table_refused past law start p e out out_after first before after asked so has brings piece (inr (same, told)) =
+      refuses e same
+      (bring_then me (StepsStill me c) AnyPast (λ f q. IsTableOf s q.history × (start - 1 ≤ count_of q.history)) (IsToldTo c e) first before after brings
+      (why_brings me c (λ next shown. ⊥) (λ f q. IsTableOf s q.history × (start - 1 ≤ count_of q.history)) e before after
+      (table_told past c.from s start e out out_after before after piece told)))
 
   pub table_opened : (start : ℕ) (p : Place) (out out_after : SinkView) (first before after : StoreView) → c.full ≡ true → HasJoined s c start p first before
       → BringsBeside me (StepsStill me c) AnyPast (λ f q. IsTableOf s q.history) first before → PrintsStart s start out out_after before after None
-      → PieceBeside (LearnsStart s start) (λ own. Unit {0}) out out_after before after None → OpenedBeside me s c first out out_after after (Ok p)
+      → PieceBeside (LearnsStart s start) (TellsBeside s) out out_after before after None → OpenedBeside me s c first out out_after after (Ok p)
   table_opened start p out out_after first before after asked has brings (shown, did, was) (text, learns, taken) =
       subst (λ (p : Place). OpenedBeside me s c first out out_after after (Ok p)) (sym has.place) (
         true,
@@ -350,20 +305,53 @@ module _ (law : FirstLaw) (me : Actor) (s : TableSchema) (c : Consuming) (p : Pl
       let t = in_a_row (Opens s c p full table_text) (λ own. Unit {0}) first middle after opens any in
       (t.0, (table_text, t.1), t.2)
 
-  pub listing_stops : PastStays → (e : Refusal) (after : StoreView) → HasTrace (DidLatest (Err e)) middle after → ConsumesBeside me c out between first after (Some e)
-  listing_stops past e after did =
+  -- no call of the opening is a move
+  opened_so : (moved : List (List ℕ)) → BringsBeside me (Steps me c p.next moved) AnyPast (λ f q. Kept q.history) first middle
+  opened_so moved = bring_weaker me (StepsStill me c) (Steps me c p.next moved) AnyPast AnyPast (λ f q. Kept q.history) (λ f q. Kept q.history) first middle
+      (steps_still me c p.next moved) (λ f q known. known) (λ f q stands known. known) opened.1
+
+  listing_known : (e : Refusal) (after : StoreView) → LearnsWhy c.from e middle after
+      → BringsBeside me (StepsStill me c) AnyPast (λ f q. Kept q.history × IsToldTo c e f q) first after
+  listing_known e after why =
+      bring_then me (StepsStill me c) AnyPast (λ f q. Kept q.history) (λ f q. Kept q.history × IsToldTo c e f q) first middle after opened.1
+      (bring_known me (StepsStill me c) (λ f q. Kept q.history) (λ f q. Kept q.history × AnyPast f q) (λ f q. Kept q.history × IsToldTo c e f q)
+      (λ f q. Kept q.history × IsToldTo c e f q) middle after (λ f q known. (known, tt)) (λ f q stands known. known)
+      (bring_with me c (λ next shown. ⊥) Kept (starting_on s full p.next text) AnyPast (IsToldTo c e) middle after
+      (why_brings me c (λ next shown. ⊥) AnyPast e middle after why)))
+
+  pub listing_stops : (e : Refusal) (after : StoreView) → HasTrace (DidLatest (Err e)) middle after → Learns AnyPast (IsTold e) middle after
+      → ConsumesBeside me c out between first after (Some e)
+  listing_stops e after did told =
+      let known = listing_known e after (why_read (λ e own. DidLatest (Err e) own) c.from e middle after (λ id latest own shows. shows) did told) in
       stops e s p full text [] (begun after (any_trace (DidLatest (Err e)) middle after did)) (opened.0 ∙ ap (and_then out.taken) (sym (append-nil text)))
-      (bring_weaker me (StepsStill me c) (Steps me c p.next []) AnyPast AnyPast (λ f q. Kept q.history)
-      (λ f q. (es : List Entry) × (q.history ≡ table s es) × IsFirstOf s es full p.next 0 (text ++ [])) first after (steps_still me c p.next []) (λ f q known. known)
-      (λ f q stands known. first_of law s so.0 so.1 q.history full p.next text [] known.0 known.1 tt)
-      (bring_then me (StepsStill me c) AnyPast (λ f q. Kept q.history) (λ f q. Kept q.history) first middle after opened.1
-      (bring_known me (StepsStill me c) (λ f q. Kept q.history) (λ f q. Kept q.history × AnyPast f q) (λ f q. Kept q.history × AnyPast f q) (λ f q. Kept q.history)
-      middle after (λ f q known. (known, tt)) (λ f q stands known. known.0)
-      (bring_with me c (λ next shown. ⊥) Kept (starting_on s full p.next text) AnyPast AnyPast middle after
-      (reads_bring me c past middle after (listing_reads e middle after did))))))
+      (bring_weaker me (StepsStill me c) (Steps me c p.next []) AnyPast AnyPast (λ f q. Kept q.history × IsToldTo c e f q)
+      (λ f q. (es : List Entry) × (q.history ≡ table s es) × IsFirstOf s es full p.next 0 (text ++ [])) first after (steps_still me c p.next []) (λ f q so. so)
+      (λ f q stands both. first_of law s so.0 so.1 q.history full p.next text [] both.0.0 both.0.1 tt) known)
+      (bring_weaker me (StepsStill me c) (Steps me c p.next []) AnyPast AnyPast (λ f q. Kept q.history × IsToldTo c e f q) (IsToldTo c e) first after
+      (steps_still me c p.next []) (λ f q so. so) (λ f q stands both. both.1) known)
 
   module _ (latest : ℕ) (now after : StoreView) (did : HasTrace (DidLatest (Ok latest)) middle now)
       (listed : Learns AnyPast (λ f p. (latest ≤ greatest) × (latest ≤ count_of p.history)) middle now) where
+    listed_now : (moved : List (List ℕ)) → BringsBeside me (Steps me c p.next moved) AnyPast (λ f q. Kept q.history × IsListed s latest q.history) first now
+    listed_now moved =
+        bring_then me (Steps me c p.next moved) AnyPast (λ f q. Kept q.history) (λ f q. Kept q.history × IsListed s latest q.history) first middle now
+        (opened_so moved)
+        (bring_known me (Steps me c p.next moved) (λ f q. Kept q.history) (λ f q. Kept q.history × AnyPast f q)
+        (λ f q. Kept q.history × ((latest ≤ greatest) × (latest ≤ count_of q.history))) (λ f q. Kept q.history × IsListed s latest q.history) middle now
+        (λ f q known. (known, tt)) (λ f q stands known. (known.0, record { is = known.0.0; plain = plain_names s so.1; within = known.1.1 }))
+        (bring_with me c (λ next shown. (n : ℕ) × (next ≡ p.next + n) × (slice_get moved n ≡ Some shown)) Kept (starting_on s full p.next text) AnyPast
+        (λ f q. (latest ≤ greatest) × (latest ≤ count_of q.history)) middle now
+        (learned me c (λ next shown. (n : ℕ) × (next ≡ p.next + n) × (slice_get moved n ≡ Some shown)) AnyPast
+        (λ f q. (latest ≤ greatest) × (latest ≤ count_of q.history)) middle now listed)))
+
+    -- why a call behind these frames was refused
+    frames_why : (e : Refusal) (frames : List (List ℕ)) → BringsBeside me (Steps me c p.next frames) (λ f q. IsListed s latest q.history) (IsToldTo c e) now after
+        → BringsBeside me (Steps me c p.next frames) AnyPast (IsToldTo c e) first after
+    frames_why e frames why =
+        bring_then me (Steps me c p.next frames) AnyPast (λ f q. IsListed s latest q.history) (IsToldTo c e) first now after
+        (bring_known me (Steps me c p.next frames) AnyPast AnyPast (λ f q. Kept q.history × IsListed s latest q.history) (λ f q. IsListed s latest q.history) first now
+        (λ f q known. known) (λ f q stands known. known.1) (listed_now frames)) why
+
     -- the pieces are the first of what is printed
     frames_first : (frames moved : List (List ℕ)) → BringsFrames me s c p.next latest moved frames now after
         → BringsFirst me s c p.next full moved (length frames) (text ++ joined frames) first after
@@ -374,16 +362,7 @@ module _ (law : FirstLaw) (me : Actor) (s : TableSchema) (c : Consuming) (p : Pl
         (λ f q stands known. first_of law s so.0 so.1 q.history full p.next text frames known.0.0 known.0.1 known.1.1)
         (bring_then me (Steps me c p.next moved) AnyPast (λ f q. Kept q.history × IsListed s latest q.history)
         (λ f q. Kept q.history × (IsListed s latest q.history × AreFramesFrom q.history p.next frames)) first now after
-        (bring_then me (Steps me c p.next moved) AnyPast (λ f q. Kept q.history) (λ f q. Kept q.history × IsListed s latest q.history) first middle now
-        (bring_weaker me (StepsStill me c) (Steps me c p.next moved) AnyPast AnyPast (λ f q. Kept q.history) (λ f q. Kept q.history) first middle
-        (steps_still me c p.next moved) (λ f q known. known) (λ f q stands known. known) opened.1)
-        (bring_known me (Steps me c p.next moved) (λ f q. Kept q.history) (λ f q. Kept q.history × AnyPast f q)
-        (λ f q. Kept q.history × ((latest ≤ greatest) × (latest ≤ count_of q.history))) (λ f q. Kept q.history × IsListed s latest q.history) middle now
-        (λ f q known. (known, tt)) (λ f q stands known. (known.0, record { is = known.0.0; plain = plain_names s so.1; within = known.1.1 }))
-        (bring_with me c (λ next shown. (n : ℕ) × (next ≡ p.next + n) × (slice_get moved n ≡ Some shown)) Kept (starting_on s full p.next text) AnyPast
-        (λ f q. (latest ≤ greatest) × (latest ≤ count_of q.history)) middle now
-        (learned me c (λ next shown. (n : ℕ) × (next ≡ p.next + n) × (slice_get moved n ≡ Some shown)) AnyPast
-        (λ f q. (latest ≤ greatest) × (latest ≤ count_of q.history)) middle now listed))))
+        (listed_now moved)
         (bring_with me c (λ next shown. (n : ℕ) × (next ≡ p.next + n) × (slice_get moved n ≡ Some shown)) Kept (starting_on s full p.next text)
         (λ f q. IsListed s latest q.history) (λ f q. IsListed s latest q.history × AreFramesFrom q.history p.next frames) now after brings))
 
@@ -411,8 +390,8 @@ module _ (law : FirstLaw) (me : Actor) (s : TableSchema) (c : Consuming) (p : Pl
         let lists = in_a_row (Opens s c p full table_text) (DidLatest (Ok latest)) first middle now opens did in
         let t = in_a_row (Lists s c p full table_text latest) (HandsOut s c p (count_from p.next latest) shown) first now after lists trace in
         prints s p full latest text frames (t.0, (table_text, shown, t.1), t.2) size (taken ∙ took_all frames) (frames_first frames frames brings)
-    frames_beside (Some e) hands (frames, inl (taken, brings)) =
-        stops e s p full text frames (begun_all e hands) (taken ∙ took_all frames) (frames_first frames frames brings)
+    frames_beside (Some e) hands (frames, inl (taken, brings, why)) =
+        stops e s p full text frames (begun_all e hands) (taken ∙ took_all frames) (frames_first frames frames brings) (frames_why e frames why)
     frames_beside (Some e) hands (frames, inr (last, is, took, brings)) =
         let all_first = frames_first (frames ++ last ∷ []) frames brings in
         subst (λ (e : Refusal). ConsumesBeside me c out out_after first after (Some e)) (sym is)

@@ -1,6 +1,6 @@
 -- What `follow` with a consumer does whatever others do before, between and after its calls.
 use Rattle.std.specs.Prelude.{◌≡◌, ◌≢◌, ◌⊎◌, ℕ, suc, ◌+◌, List, [], ◌++◌, length, slice_get, Bool, true}
-use Rattle.std.specs.Prelude.{Option, None, Some, Result}
+use Rattle.std.specs.Prelude.{Option, None, Some}
 use Rattle.std.specs.FinMap as map
 use Rattle.pm_base.specs.Known.{and_then}
 use Rattle.pm_values.specs.declared.refusal.Refusal.{Refusal}
@@ -20,7 +20,7 @@ use Rattle.pm_beside.specs.Bringing.{BringsBeside, StaysPast}
 use Rattle.pm_read_schema.specs.Beside.{AnyPast}
 use Rattle.pm_read_frame.specs.Frames.{joined}
 use Rattle.pm_command_follow.specs.Beside.{IsFirstOf}
-use Rattle.pm_command_follow.specs.Follow.{DidTable, Then}
+use Rattle.pm_command_follow.specs.Follow.{IsToldFrom, Then}
 use Rattle.pm_command_follow.specs.Printed.{count_from}
 use Rattle.pm_command_consume.specs.Consume.{HandsOut, Joins, Lists, Opens}
 use Rattle.pm_command_consume.specs.declared.consuming.Consuming.{Consuming}
@@ -65,6 +65,13 @@ StepsOf me c id frame = MayStep me c (λ next text. (next ≡ id) × (text ≡ f
 
 -- ---- what it answers
 
+-- What a refusal tells of the files and of what they stand for, as of `follow`. That another touched the consumer's
+-- file, or that a floor is above the start, tells nothing of these.
+abbrev pub IsToldTo : Consuming → Refusal → Files → Past → Type 0
+IsToldTo c (refusals.ConsumerMoved found) f p = Unit {0}
+IsToldTo c (refusals.BelowFloor next floor) f p = Unit {0}
+IsToldTo c e f p = IsToldFrom c.from e f p
+
 -- Its calls are such changes, of any past, the moves past these texts. At the end the text is that of the first pieces
 -- of what is printed of the table.
 abbrev pub BringsFirst : Actor → TableSchema → Consuming → ℕ → Bool → List (List ℕ) → ℕ → List ℕ → StoreView
@@ -76,10 +83,6 @@ BringsFirst me s c start full moved count text before after = BringsBeside me (S
 -- the consumer was registered to read this snapshot next, and any calls came after these
 abbrev pub HasRegistered : TableSchema → Consuming → ℕ → List Event → Type 0
 HasRegistered s c start own = Then (Joins s c start) (λ later. Unit {0}) own
-
--- the calls for the starting table came, by whatever was made of them
-abbrev pub TriesTable : TableSchema → ℕ → List Event → Type 0
-TriesTable s start own = (made : Result (List ℕ) Refusal) × DidTable s start made own
 
 -- it opened, and any calls came after these
 abbrev pub HasBegun : TableSchema → Consuming → Place → Bool → List Event → Type 0
@@ -93,8 +96,8 @@ HandsTo s c p full latest own = (table frames : List ℕ)
 -- What was printed, what it is of the history, and what each call changed. All frames were, up to the latest snapshot
 -- that was listed, behind the starting table, if it was asked for. Or the sink failed, in the starting table, before
 -- any move; or in a frame, behind all that the consumer was moved past. Or these frames were printed, before calls that
--- were refused, and the move past the last may be one of these. Or nothing was, and no call is a move; those of a
--- starting table that is refused come last.
+-- were refused, and the move past the last may be one of these. Or nothing was, and no call is a move. And why they
+-- were refused.
 pub data ConsumesBeside (me : Actor) (c : Consuming) (before after : SinkView) (store store_after : StoreView)
     : Option Refusal → Type 0 where
   prints : (s : TableSchema) (p : Place) (full : Bool) (latest : ℕ) (text : List ℕ) (frames : List (List ℕ))
@@ -115,9 +118,8 @@ pub data ConsumesBeside (me : Actor) (c : Consuming) (before after : SinkView) (
       → HasTrace (HasBegun s c p full) store store_after
       → after.taken ≡ and_then before.taken (text ++ joined frames)
       → BringsFirst me s c p.next full frames (length frames) (text ++ joined frames) store store_after
+      → BringsBeside me (Steps me c p.next frames) AnyPast (IsToldTo c e) store store_after
       → ConsumesBeside me c before after store store_after (Some e)
-  refuses_table : (e : Refusal) (s : TableSchema) (start : ℕ) (middle : StoreView) → after ≡ before → c.full ≡ true
-      → BringsBeside me (StepsStill me c) AnyPast AnyPast store middle
-      → HasTrace (TriesTable s start) middle store_after → ConsumesBeside me c before after store store_after (Some e)
-  refuses : (e : Refusal) → after ≡ before → BringsBeside me (StepsStill me c) AnyPast AnyPast store store_after
+  refuses : (e : Refusal) → after ≡ before
+      → BringsBeside me (StepsStill me c) AnyPast (IsToldTo c e) store store_after
       → ConsumesBeside me c before after store store_after (Some e)

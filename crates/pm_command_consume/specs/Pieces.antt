@@ -6,6 +6,7 @@ use Rattle.pm_base.specs.Known.{and_then}
 use Rattle.pm_values.specs.declared.refusal.Refusal.{Refusal}
 use Rattle.pm_values.specs.declared.refusal.Refusal.TheVariants as refusals
 use Rattle.pm_io.specs.Sink.{SinkLater, SinkView, TookPrefix}
+use Rattle.pm_store.specs.Files.{Files}
 use Rattle.pm_store.specs.Store.{StoreView}
 use Rattle.pm_machine.specs.Trace.{Event, HasTrace}
 use Rattle.pm_schema.specs.declared.schema.TableSchema.{TableSchema}
@@ -24,7 +25,7 @@ use Rattle.pm_read_frame.specs.Frames.{AreFramesFrom, IsFrameOf, joined}
 use Rattle.pm_command_follow.specs.Follow.{Then, Took}
 use Rattle.pm_command_follow.specs.Pieces.{FailsIn, IsStarting}
 use Rattle.pm_command_follow.specs.Printed.{count_from}
-use Rattle.pm_command_consume.specs.Beside.{ConsumesBeside, Steps, StepsOf, StepsStill}
+use Rattle.pm_command_consume.specs.Beside.{ConsumesBeside, IsToldTo, Steps, StepsOf, StepsStill}
 use Rattle.pm_command_consume.specs.Consume.{HandsOne, HandsOut, HasConsumed, Opens, moving_from, place_at}
 use Rattle.pm_command_consume.specs.declared.consuming.Consuming.{Consuming}
 use Rattle.pm_command_consume.specs.declared.place.Place.{Place}
@@ -110,22 +111,22 @@ BringsFrame me s c id frame store store_after = BringsBeside me (StepsOf me c id
     (λ f q. IsListed s id q.history) (λ f q. IsFrameOf q.history id frame) store store_after
 
 -- and calls none of which is a move
-abbrev pub BringsNoMove : Actor → TableSchema → Consuming → ℕ → (Past → Type 0) → StoreView → StoreView → Type 0
+abbrev pub BringsNoMove : Actor → TableSchema → Consuming → ℕ → (Files → Past → Type 0) → StoreView → StoreView → Type 0
 BringsNoMove me s c id knows store store_after = BringsBeside me (StepsStill me c)
-    (λ f q. IsListed s id q.history) (λ f q. knows q) store store_after
+    (λ f q. IsListed s id q.history) knows store store_after
 
 -- A frame was handed out, which is that of the history, and the move was past it; or it was printed, and the move was
--- refused; or the sink failed in it, or reading it was refused, and no move came.
+-- refused, which tells nothing; or the sink failed in it, or reading it was refused, and no move came.
 abbrev pub HandsBeside : Actor → TableSchema → Consuming → Place → SinkView → SinkView → StoreView → StoreView
     → Result Place Refusal → Type 0
 HandsBeside me s c p out out_after store store_after (Ok later) = (frame : List ℕ)
     × (out_after.taken ≡ and_then out.taken frame) × BringsFrame me s c p.next frame store store_after
 HandsBeside me s c p out out_after store store_after (Err e) =
     ((frame : List ℕ) × (out_after.taken ≡ and_then out.taken frame)
-    × BringsFrame me s c p.next frame store store_after)
+    × BringsFrame me s c p.next frame store store_after × ((f : Files) (q : Past) → IsToldTo c e f q))
     ⊎ (((frame : List ℕ) × (e ≡ refusals.SinkFault None) × TookPrefix out.taken out_after.taken frame
-    × BringsNoMove me s c p.next (λ q. IsFrameOf q.history p.next frame) store store_after)
-    ⊎ ((out_after ≡ out) × BringsNoMove me s c p.next (λ q. Unit {0}) store store_after))
+    × BringsNoMove me s c p.next (λ f q. IsFrameOf q.history p.next frame) store store_after)
+    ⊎ ((out_after ≡ out) × BringsNoMove me s c p.next (IsToldTo c e) store store_after))
 
 -- each call is a change of the actor's own kinds, and a move one past one of these texts; and those are frames of the
 -- history from the start on
@@ -142,15 +143,16 @@ HasBrought me s c start latest count out out_after store store_after = (frames :
     × (length frames ≡ count) × (out_after.taken ≡ and_then out.taken (joined frames))
     × BringsFrames me s c start latest frames frames store store_after
 
--- all up to the latest were handed out; or these were printed, and then a call was refused; or these were handed out,
--- and the sink failed in the next
+-- All up to the latest were handed out; or these were printed, and then a call was refused, and why; or these were
+-- handed out, and the sink failed in the next.
 abbrev pub FramesBeside : Actor → TableSchema → Consuming → Place → ℕ → SinkView → SinkView → StoreView → StoreView
     → Option Refusal → Type 0
 FramesBeside me s c p latest out out_after store store_after None =
     HasBrought me s c p.next latest (count_from p.next latest) out out_after store store_after
 FramesBeside me s c p latest out out_after store store_after (Some e) = (frames : List (List ℕ))
     × (((out_after.taken ≡ and_then out.taken (joined frames))
-    × BringsFrames me s c p.next latest frames frames store store_after)
+    × BringsFrames me s c p.next latest frames frames store store_after
+    × BringsBeside me (Steps me c p.next frames) (λ f q. IsListed s latest q.history) (IsToldTo c e) store store_after)
     ⊎ ((last : List ℕ) × (e ≡ refusals.SinkFault None)
     × TookPrefix (and_then out.taken (joined frames)) out_after.taken last
     × BringsFrames me s c p.next latest frames (frames ++ last ∷ []) store store_after))

@@ -21,7 +21,6 @@ use crate::opening::open_place;
 use crate::place::Place;
 use pm_command_follow::{followed_schema, pieces_law};
 use pm_io::Sink;
-use pm_model_folder::past_law;
 use pm_read_frame::frames_law;
 use pm_read_latest::read_latest;
 use pm_schema::TableSchema;
@@ -53,7 +52,6 @@ pub fn run_consume<W: Sink, F: FileStore>(
     ensures store_later { IsLater (F.seen store.old) (F.seen store.new) }
 {
     consume_law();
-    past_law();
     let schema = followed_schema(alloc, store)?;
     consume_table(alloc, &schema, consuming, out, store)
 }
@@ -104,7 +102,6 @@ fn consume_on<W: Sink, F: FileStore>(
     ensures store_later { IsLater (F.seen store.old) (F.seen store.new) }
 {
     frames_law();
-    past_law();
     pieces_law();
     let latest = read_latest(alloc, store)?;
     hand_out_frames(alloc, schema, consuming, place, latest, out, store)

@@ -15,7 +15,6 @@ use crate::consuming::Consuming;
 use crate::place::Place;
 use pm_command_follow::print_frame;
 use pm_io::Sink;
-use pm_model_folder::past_law;
 use pm_move_consumer::move_consumer;
 use pm_read_frame::frames_law;
 use pm_schema::TableSchema;
@@ -77,7 +76,6 @@ fn hand_out<W: Sink, F: FileStore>(
 {
     consumer_law();
     frames_law();
-    past_law();
     let next = place.next;
     print_frame(alloc, schema, next, out, store)?;
     let bytes = move_consumer(alloc, &consuming.name, place.bytes, next, store)?;

@@ -48,7 +48,6 @@ pub(crate) fn open_place<W: Sink, F: FileStore>(
     ensures store_later { IsLater (F.seen store.old) (F.seen store.new) }
 {
     consumer_law();
-    past_law();
     let found = find_consumer(alloc, &consuming.name, store)?;
     match standing_of(found) {
         Standing::Settled { place } => Ok(place),

@@ -33,7 +33,7 @@ use Rattle.pm_expire_end.specs.declared.keep.Keep.{Keep}
 use Rattle.pm_expire_end.specs.declared.keep.KeepAsked.{KeepAsked}
 use Rattle.pm_create.specs.Making.{LeavesFiles}
 use Rattle.pm_read_schema.specs.AllCalls.{DidRead, HasFiles, ReadsTables, Stay}
-use Rattle.pm_read_schema.specs.Beside.{AnyPast, Learns}
+use Rattle.pm_read_schema.specs.Beside.{AnyPast, IsTold, Learns}
 use Rattle.pm_read_schema.specs.Trace.{listed_snapshots, read_schema}
 use Rattle.pm_read_schema.proofs.LeadLemmas.{none_last}
 use Rattle.pm_read_latest.specs.AllCalls.{IsCaused}
@@ -76,18 +76,19 @@ asked_is start asked s keep now is at = ap₂ (λ (keep : Keep) (now : ℤ). rec
 
 -- ---- whatever others do
 
-pub read_beside : (e : Refusal) (before after : StoreView) → HasTrace (DidRead (Err e)) before after → MadeBeside (Err e) before after
-read_beside e before after did = inl (trace_weaker (DidRead (Err e)) (λ own. DidRead (Err e) own ⊎ EndsAtSchema e own) (λ own shows. inl shows) before after did)
+pub read_beside : (e : Refusal) (before after : StoreView) → HasTrace (DidRead (Err e)) before after → Learns AnyPast (IsTold e) before after
+    → MadeBeside (Err e) before after
+read_beside e before after did told = inr (inl (did, told))
 
 pub judge_beside : (s : TableSchema) (e : Refusal) (before after : StoreView) → (e ≡ refusals.Memory) ⊎ (unbuilt s ≡ Some e)
     → HasTrace (DidRead (Ok s)) before after → MadeBeside (Err e) before after
 judge_beside s e before after why did =
-    inl (trace_weaker (DidRead (Ok s)) (λ own. DidRead (Err e) own ⊎ EndsAtSchema e own) (λ own has. inr (s, why, has)) before after did)
+    inl (trace_weaker (DidRead (Ok s)) (EndsAtSchema e) (λ own has. (s, why, has)) before after did)
 
 pub expired_beside : (s : TableSchema) (made : Result Kept Refusal) (before middle after : StoreView) → Learns AnyPast (λ f p. IsTableOf s p.history) before middle
     → ((me : Actor) → ExpiresBeside me s made middle after) → MadeBeside made before after
 expired_beside s (Ok kept) before middle after learned expires = (s, middle, learned, expires)
-expired_beside s (Err e) before middle after learned expires = inr (s, middle, learned, expires)
+expired_beside s (Err e) before middle after learned expires = inr (inr (s, middle, learned, expires))
 
 -- whatever came stays before it
 pub expired_goes_on : (me : Actor) (s : TableSchema) (made : Result Kept Refusal) (middle after : StoreView) → ExpiresBeside me s made middle after → GoesOn middle after

@@ -1,1 +1,2 @@
 pub mod ExpireLaws
+mod OneLemmas

@@ -18,7 +18,7 @@ use Rattle.pm_model_folder.specs.Ledger.{count_of}
 use Rattle.pm_expire_end.specs.Keep.{keep_of}
 use Rattle.pm_expire_end.specs.declared.keep.KeepAsked.{KeepAsked}
 use Rattle.pm_create.specs.Making.{LeavesFiles}
-use Rattle.pm_read_schema.specs.Beside.{AnyPast, Learns}
+use Rattle.pm_read_schema.specs.Beside.{AnyPast, IsTold, Learns}
 use Rattle.pm_read_schema.specs.Trace as reader
 use Rattle.pm_read_expiry.specs.declared.asking.Asking.{Asking}
 use Rattle.pm_commit.specs.AllCalls.{MayStart}
@@ -50,17 +50,19 @@ DidExpire start asked (Ok kept) own = GoesOnAs start asked (Ok kept) own
 DidExpire start asked (Err e) own = reader.Shows e own ⊎ (EndsAtSchema e own ⊎ GoesOnAs start asked (Err e) own)
 
 -- Whatever others do, to each past that has the table whose schema was read its calls bring what those of an expiry
--- may, whoever makes them.
+-- may, whoever makes them, and what its answer tells.
 abbrev pub GoesOnBeside : Result Kept Refusal → StoreView → StoreView → Type 0
 GoesOnBeside made before after = (s : TableSchema) × (middle : StoreView)
     × Learns AnyPast (λ f p. IsTableOf s p.history) before middle
     × ((me : Actor) → ExpiresBeside me s made middle after)
 
--- or they end with the schema
+-- or they end with the schema, which isn't built, or before it was read, and the refusal tells what is so
 abbrev pub MadeBeside : Result Kept Refusal → StoreView → StoreView → Type 0
 MadeBeside (Ok kept) before after = GoesOnBeside (Ok kept) before after
 MadeBeside (Err e) before after =
-    HasTrace (λ own. reader.Shows e own ⊎ EndsAtSchema e own) before after ⊎ GoesOnBeside (Err e) before after
+    HasTrace (EndsAtSchema e) before after
+    ⊎ ((HasTrace (reader.Shows e) before after × Learns AnyPast (IsTold e) before after)
+    ⊎ GoesOnBeside (Err e) before after)
 
 -- ---- what it prints
 

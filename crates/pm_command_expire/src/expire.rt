@@ -10,7 +10,7 @@ ghost use Rattle.pm_command_expire.specs.Expire.{kept_text, DidExpire, IsTableEx
 
 use itoa::Buffer;
 use pm_command::{Start, judge, print};
-use pm_expire::{Kept, all_calls_law, causes_law, expire_table, image_law};
+use pm_expire::{Kept, all_calls_law, alone_causes_law, expire_table, image_law};
 use pm_expire_end::{KeepAsked, asked_law};
 use pm_io::{LineBuffer, Sink};
 use pm_model_folder::{settled_law, unnamed_law};
@@ -55,8 +55,8 @@ fn expire_built<F: FileStore>(
     let schema = read_table_schema(alloc, store)?;
     judge(alloc, &schema)?;
     all_calls_law();
+    alone_causes_law();
     asked_law();
-    causes_law();
     image_law();
     settled_law();
     unnamed_law();

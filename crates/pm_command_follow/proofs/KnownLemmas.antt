@@ -1,8 +1,9 @@
 -- What is known of the pieces that were printed, one after another, whatever others do.
-use Rattle.std.proofs.Common.{◌≡◌, ◌⊎◌, inl, inr, ℕ, suc, ◌+◌, ◌-◌, ◌<◌, ◌≤◌, Bool, true, false, List, [], ◌∷◌, ◌++◌, length, IfOk, Option, None, Some, Result, Ok, Err, Vec, refl, sym, ap, subst, ◌∙◌, append-nil, append_assoc, length-append, arith}
+use Rattle.std.proofs.Common.{◌≡◌, ◌⊎◌, inl, inr, ℕ, suc, ◌+◌, ◌-◌, ◌<◌, ◌≤◌, Bool, true, false, List, [], ◌∷◌, ◌++◌, length, IfErr, IfOk, Option, None, Some, Result, Ok, Err, Vec, refl, sym, ap, subst, ◌∙◌, append-nil, append_assoc, length-append, arith}
 use Rattle.std.specs.Global.{Global}
 use Rattle.pm_base.specs.Known.{and_then}
 use Rattle.pm_values.specs.declared.refusal.Refusal.{Refusal}
+use Rattle.pm_values.specs.declared.refusal.Refusal.TheVariants as refusals
 use Rattle.pm_io.specs.Sink.{SinkView, TookPrefix}
 use Rattle.pm_store.specs.Files.{Files}
 use Rattle.pm_store.specs.Store.{StoreView}
@@ -13,7 +14,7 @@ use Rattle.pm_snapshot.specs.Names.{greatest}
 use Rattle.pm_model_history.specs.History.{Entry, GoesOn, History, IsTableOf, no_table, table}
 use Rattle.pm_model_folder.specs.Ledger.{Past, Stands, count_of}
 use Rattle.pm_draft.specs.Built.{IsBuilt}
-use Rattle.pm_read_schema.specs.Beside.{AnyPast, Learns}
+use Rattle.pm_read_schema.specs.Beside.{AnyPast, IsTold, Learns}
 use Rattle.pm_read_schema.proofs.BesideFacts.{PastStays, learns-none, learns-then, learns-weaker}
 use Rattle.pm_read_latest.specs.AllCalls.{DidLatest}
 use Rattle.pm_read_table.specs.Trace.{HasDelta, HasView, of_origin, of_snapshot}
@@ -21,7 +22,7 @@ use Rattle.pm_read_table.specs.declared.view.View.{View}
 use Rattle.pm_manifest.specs.declared.entry.ManifestMeta.{ManifestMeta}
 use Rattle.pm_snapshot.specs.declared.snapshot.Snapshot.{Snapshot}
 use Rattle.pm_scan.specs.Asked.{passed_at}
-use Rattle.pm_scan.specs.Beside.{PassesBeside}
+use Rattle.pm_scan.specs.Beside.{PassesBeside, TellsBeside}
 use Rattle.pm_scan.specs.Meaning.{IsPassed}
 use Rattle.pm_scan.specs.Trace.{HasScan}
 use Rattle.pm_read_frame.specs.AllCalls.{DidFrame}
@@ -30,12 +31,12 @@ use Rattle.pm_read_frame.specs.Meaning.{IsFrame}
 use Rattle.pm_command.specs.Outside as outside
 use Rattle.pm_command_follow.specs.Beside.{ArePieces, IsFirstOf, IsStartOf}
 use Rattle.pm_command_follow.specs.Follow.{DidTable, FollowsBeside, HasStarted, LearnsFirst, Lists, Opens, ReadsFrames, Starts, TellsChanges, Then, breaks_off, prints, refuses, stops}
-use Rattle.pm_command_follow.specs.Pieces.{AreReads, FramesBeside, HasBegun, HasLearned, IsListed, IsStarting, LearnsFrame, LearnsFrames, LearnsStart, LearnsTable, PieceBeside, PrintsFrames, PrintsPiece, PrintsStart}
+use Rattle.pm_command_follow.specs.Pieces.{FramesBeside, HasBegun, HasLearned, IsCommittedOf, IsListed, IsStarting, LearnsBelow, LearnsFrame, LearnsFrames, LearnsStart, PieceBeside, PrintsFrames, PrintsPiece, PrintsStart, RefusesFrame}
 use Rattle.pm_command_follow.specs.Printed.{count_from, table_head}
 use Rattle.pm_command_follow.proofs.JoinLemmas.{in_a_row}
 use Rattle.pm_command_follow.proofs.LearnLemmas.{count_on, goes_itself, learns_with, start_on, table_on}
-use Rattle.pm_command_follow.proofs.ReadLemmas.{listing_reads, reads_learn}
 use Rattle.pm_command_follow.proofs.TextLemmas.{and_then_nothing, and_then_twice, took_behind}
+use Rattle.pm_command_follow.proofs.WhyLemmas.{why_frames, why_listing, why_start}
 
 -- what the law of pieces says of the first of them
 abbrev pub FirstLaw : Type 0
@@ -54,18 +55,6 @@ FramesLater = (h later : History) (id : ℕ) (texts : List (List ℕ)) → GoesO
 abbrev pub FramesNext : Type 0
 FramesNext = (h : History) (id : ℕ) (texts : List (List ℕ)) (text : List ℕ) → AreFramesFrom h id texts → IsFrameOf h (id + length texts) text
     → AreFramesFrom h id (texts ++ text ∷ [])
-
--- ---- the schema and the listings
-
--- the table goes on to have the schema while its snapshots are listed
-pub table_still : (s : TableSchema) (latest : ℕ) (first before after : StoreView) → LearnsTable s first before
-    → Learns AnyPast (λ f p. (latest ≤ greatest) × (latest ≤ count_of p.history)) before after → LearnsTable s first after
-table_still s latest first before after learned listed =
-    learns-then AnyPast (λ f p. IsTableOf s p.history) (λ f p. IsTableOf s p.history) first before after learned
-    (learns-weaker (λ f p. IsTableOf s p.history) (λ f p. IsTableOf s p.history × AnyPast f p)
-    (λ f p. IsTableOf s p.history × ((latest ≤ greatest) × (latest ≤ count_of p.history))) (λ f p. IsTableOf s p.history) before after
-    (λ f p known. (known, tt)) (λ f p stands known. known.0)
-    (learns_with (λ h. IsTableOf s h) (table_on s) AnyPast (λ f p. (latest ≤ greatest) × (latest ≤ count_of p.history)) before after listed))
 
 -- ---- the starting table
 
@@ -88,6 +77,22 @@ passed_known s copy at (Ok text) before after same (id, (own, has, trace), learn
     subst (λ (s : TableSchema). Learns (λ f p. IsTableOf s p.history) (λ f p. IsPassed p at text.items) before after) same
     (subst (λ (id : ℕ). Learns (λ f p. IsTableOf copy p.history) (λ f p. IsPassed p id text.items) before after) (passed_id copy at id text.items own has) learned)
 
+pub passed_told : (s copy : TableSchema) (made : Result (Vec ℕ Global) Refusal) (before after : StoreView) → copy ≡ s
+    → IfErr made (λ e. TellsBeside copy e before after) → IfErr made (λ e. TellsBeside s e before after)
+passed_told s copy (Ok text) before after same told = tt
+passed_told s copy (Err e) before after same told = subst (λ (s : TableSchema). TellsBeside s e before after) same told
+
+-- memory ran out before any call
+pub none_told : (s : TableSchema) (store : StoreView) → TellsBeside s refusals.Memory store store
+none_told s store = learns-weaker (λ f p. IsTableOf s p.history) (λ f p. IsTableOf s p.history) (λ f p. IsTableOf s p.history) (IsTold refusals.Memory) store store
+    (λ f p known. known) (λ f p stands known. tt) (learns-none (λ f p. IsTableOf s p.history) store)
+
+-- or after the rows were read
+pub rows_told : (s : TableSchema) (id : ℕ) (rows : List ℕ) (before after : StoreView) → Learns (λ f p. IsTableOf s p.history) (λ f p. IsPassed p id rows) before after
+    → TellsBeside s refusals.Memory before after
+rows_told s id rows before after = learns-weaker (λ f p. IsTableOf s p.history) (λ f p. IsTableOf s p.history) (λ f p. IsPassed p id rows) (IsTold refusals.Memory)
+    before after (λ f p known. known) (λ f p stands known. tt)
+
 start_known : (s : TableSchema) (start : ℕ) (rows text : List ℕ) (f : Files) (p : Past) → text ≡ table_head (start - 1) ++ rows → Stands f p
     → IsTableOf s p.history → IsPassed p (start - 1) rows → IsStarting s true start text p
 start_known s start rows text f p is stands of_table scan =
@@ -104,16 +109,16 @@ start_learned s start rows text before after is learned =
 
 -- ---- a piece
 
-pub piece_printed : (learns : List ℕ → StoreView → StoreView → Type 0) (refused : List Event → Type 0) (text shown : List ℕ) (out out_after : SinkView)
+pub piece_printed : (learns : List ℕ → StoreView → StoreView → Type 0) (refused : Refusal → StoreView → StoreView → Type 0) (text shown : List ℕ) (out out_after : SinkView)
     (store after : StoreView) (answer : Option Refusal) → shown ≡ text → learns text store after → outside.Prints shown None None out out_after answer
     → PieceBeside learns refused out out_after store after answer
 piece_printed learns refused text shown out out_after store after None is known taken = (text, known, taken ∙ ap (and_then out.taken) is)
 piece_printed learns refused text shown out out_after store after (Some e) is known (fault, failed, took) =
     inl (text, known, (fault, failed, subst (TookPrefix out.taken out_after.taken) is took))
 
-pub piece_refused : (learns : List ℕ → StoreView → StoreView → Type 0) (refused : List Event → Type 0) (e : Refusal) (out : SinkView)
-    (store after : StoreView) → HasTrace refused store after → PieceBeside learns refused out out store after (Some e)
-piece_refused learns refused e out store after trace = inr (refl, trace)
+pub piece_refused : (learns : List ℕ → StoreView → StoreView → Type 0) (refused : Refusal → StoreView → StoreView → Type 0) (e : Refusal) (out : SinkView)
+    (store after : StoreView) → refused e store after → PieceBeside learns refused out out store after (Some e)
+piece_refused learns refused e out store after why = inr (refl, why)
 
 -- some calls came
 pub any_trace : (did : List Event → Type 0) (before after : StoreView) → HasTrace did before after → HasTrace (λ own. Unit {0}) before after
@@ -169,7 +174,7 @@ frames_push known later next s start latest id frames text store now after withi
 
 pub one_learned : FrameKnown → FramesLater → FramesNext → (s : TableSchema) (start latest id : ℕ) (first middle last : SinkView) (store now after : StoreView)
     → start ≤ id → id ≤ latest → latest ≤ greatest → HasLearned s start latest (id - start) first middle store now
-    → PieceBeside (LearnsFrame s id) AreReads middle last now after None → HasLearned s start latest ((id + 1) - start) first last store after
+    → PieceBeside (LearnsFrame s id) (RefusesFrame s id) middle last now after None → HasLearned s start latest ((id + 1) - start) first last store after
 one_learned known later next s start latest id first middle last store now after low within most (frames, size, learned, taken) (text, frame, taken_frame) =
     let push = length_push frames text in (
       frames ++ text ∷ [],
@@ -179,11 +184,23 @@ one_learned known later next s start latest id first middle last store now after
           ∙ ap (and_then first.taken) (sym (joined_push frames text)),
     )
 
-pub frame_stopped : PastStays → FrameKnown → FramesLater → FramesNext → (s : TableSchema) (start latest id : ℕ) (first middle last : SinkView)
+-- each snapshot up to the latest that was listed was committed
+committed_below : (s : TableSchema) (latest id : ℕ) (f : Files) (p : Past) → id ≤ latest → latest ≤ greatest → IsListed s latest p → IsCommittedOf s id f p
+committed_below s latest id f p within most known = (known.0, omega (arith, within, most), omega (arith, within, known.1))
+
+-- a frame was refused behind others
+refused_push : (s : TableSchema) (start latest id : ℕ) (frames : List (List ℕ)) (e : Refusal) (store now after : StoreView) → id ≤ latest → latest ≤ greatest
+    → LearnsFrames s start latest frames store now → Learns (IsCommittedOf s id) (IsTold e) now after → Learns (λ f p. IsListed s latest p) (IsTold e) store after
+refused_push s start latest id frames e store now after within most learned told =
+    learns-then (λ f p. IsListed s latest p) (λ f p. IsListed s latest p × AreFramesFrom p.history start frames) (IsTold e) store now after learned
+    (learns-weaker (λ f p. IsListed s latest p × AreFramesFrom p.history start frames) (IsCommittedOf s id) (IsTold e) (IsTold e) now after
+    (λ f p was. committed_below s latest id f p within most was.0) (λ f p stands known. known) told)
+
+pub frame_stopped : FrameKnown → FramesLater → FramesNext → (s : TableSchema) (start latest id : ℕ) (first middle last : SinkView)
     (store now after : StoreView) (e : Refusal) → start ≤ id → id ≤ latest → latest ≤ greatest
-    → HasLearned s start latest (id - start) first middle store now → PieceBeside (LearnsFrame s id) AreReads middle last now after (Some e)
+    → HasLearned s start latest (id - start) first middle store now → PieceBeside (LearnsFrame s id) (RefusesFrame s id) middle last now after (Some e)
     → FramesBeside s start latest first last store after (Some e)
-frame_stopped past known later next s start latest id first middle last store now after e low within most (frames, size, learned, taken)
+frame_stopped known later next s start latest id first middle last store now after e low within most (frames, size, learned, taken)
     (inl (text, frame, (is, failed, took))) = (
       frames ++ text ∷ [],
       frames_push known later next s start latest id frames text store now after within most (omega (arith, size, low)) learned frame,
@@ -193,13 +210,21 @@ frame_stopped past known later next s start latest id first middle last store no
             (took_behind first.taken last.taken (joined frames) text (subst (λ (taken : Option (List ℕ)). TookPrefix taken last.taken text) taken took)),
       ),
     )
-frame_stopped past known later next s start latest id first middle last store now after e low within most (frames, size, learned, taken)
-    (inr (same, (own, are, trace))) = (
+frame_stopped known later next s start latest id first middle last store now after e low within most (frames, size, learned, taken)
+    (inr (same, told)) = (
       frames,
       learns-then (λ f p. IsListed s latest p) (λ f p. IsListed s latest p × AreFramesFrom p.history start frames)
           (λ f p. IsListed s latest p × AreFramesFrom p.history start frames) store now after learned
-          (reads_learn past (λ h. (IsTableOf s h × (latest ≤ count_of h)) × AreFramesFrom h start frames) (frames_on later s start latest frames) own now after are trace),
-      inr (ap (λ (out : SinkView). out.taken) same ∙ taken),
+          (learns-weaker (λ f p. IsListed s latest p × AreFramesFrom p.history start frames)
+          (λ f p. (IsListed s latest p × AreFramesFrom p.history start frames) × IsCommittedOf s id f p)
+          (λ f p. (IsListed s latest p × AreFramesFrom p.history start frames) × IsTold e f p) (λ f p. IsListed s latest p × AreFramesFrom p.history start frames)
+          now after (λ f p was. (was, committed_below s latest id f p within most was.0)) (λ f p stands known. known.0)
+          (learns_with (λ h. (IsTableOf s h × (latest ≤ count_of h)) × AreFramesFrom h start frames) (frames_on later s start latest frames) (IsCommittedOf s id)
+          (IsTold e) now after told)),
+      inr (
+        ap (λ (out : SinkView). out.taken) same ∙ taken,
+        refused_push s start latest id frames e store now after within most learned told,
+      ),
     )
 
 pub all_learned : (s : TableSchema) (start latest id : ℕ) (first last : SinkView) (store after : StoreView) → start ≤ id → latest < id
@@ -248,6 +273,18 @@ begun_first law s full start text first after so =
     let found = first_of law s so.0 so.1 p.history full start text [] known.0 known.1 tt in
     (found.0, found.1, subst (IsFirstOf s found.0 full start 0) (append-nil text) found.2)))
 
+-- and the snapshots that were listed after it
+listed_begun : (s : TableSchema) (full : Bool) (start latest : ℕ) (text : List ℕ) (first before now : StoreView)
+    → Learns AnyPast (λ f p. IsStarting s full start text p) first before → Learns AnyPast (λ f p. (latest ≤ greatest) × (latest ≤ count_of p.history)) before now
+    → Learns AnyPast (λ f p. IsStartOf p.history full start text × IsListed s latest p) first now
+listed_begun s full start latest text first before now begun listed =
+    learns-then AnyPast (λ f p. IsStarting s full start text p) (λ f p. IsStartOf p.history full start text × IsListed s latest p) first before now begun
+    (learns-weaker (λ f p. IsStarting s full start text p) (λ f p. IsStarting s full start text p × AnyPast f p)
+    (λ f p. IsStarting s full start text p × ((latest ≤ greatest) × (latest ≤ count_of p.history)))
+    (λ f p. IsStartOf p.history full start text × IsListed s latest p) before now (λ f p known. (known, tt))
+    (λ f p stands known. (known.0.1, (known.0.0, known.1.1)))
+    (learns_with (λ h. IsTableOf s h × IsStartOf h full start text) (starting_on s full start text) AnyPast (λ f p. (latest ≤ greatest) × (latest ≤ count_of p.history)) before now listed))
+
 -- and with frames behind it
 frames_first : FirstLaw → (s : TableSchema) (full : Bool) (start latest : ℕ) (text : List ℕ) (frames : List (List ℕ)) (first before now after : StoreView)
     → TellsChanges s × IsBuilt s → Learns AnyPast (λ f p. IsStarting s full start text p) first before
@@ -259,12 +296,7 @@ frames_first law s full start latest text frames first before now after so begun
     (λ f p stands known. first_of law s so.0 so.1 p.history full start text frames known.1.0.0 known.0 known.1.1)
     (learns-then AnyPast (λ f p. IsStartOf p.history full start text × IsListed s latest p)
     (λ f p. IsStartOf p.history full start text × (IsListed s latest p × AreFramesFrom p.history start frames)) first now after
-    (learns-then AnyPast (λ f p. IsStarting s full start text p) (λ f p. IsStartOf p.history full start text × IsListed s latest p) first before now begun
-    (learns-weaker (λ f p. IsStarting s full start text p) (λ f p. IsStarting s full start text p × AnyPast f p)
-    (λ f p. IsStarting s full start text p × ((latest ≤ greatest) × (latest ≤ count_of p.history)))
-    (λ f p. IsStartOf p.history full start text × IsListed s latest p) before now (λ f p known. (known, tt))
-    (λ f p stands known. (known.0.1, (known.0.0, known.1.1)))
-    (learns_with (λ h. IsTableOf s h × IsStartOf h full start text) (starting_on s full start text) AnyPast (λ f p. (latest ≤ greatest) × (latest ≤ count_of p.history)) before now listed)))
+    (listed_begun s full start latest text first before now begun listed)
     (learns_with (λ h. IsStartOf h full start text) (start_on full start text) (λ f p. IsListed s latest p)
     (λ f p. IsListed s latest p × AreFramesFrom p.history start frames) now after learned))
 
@@ -300,43 +332,53 @@ opened_so s from full start text first middle after (own, (earlier, later, start
   Traces-join own more first middle after trace rest,
 )
 
+-- the starting table is known
+table_begun : (s : TableSchema) (start : ℕ) (text : List ℕ) (first before after : StoreView) → LearnsBelow s start first before → LearnsStart s start text before after
+    → Learns AnyPast (λ f p. IsStarting s true start text p) first after
+table_begun s start text first before after learned known =
+    learns-then AnyPast (λ f p. IsListed s (start - 1) p) (λ f p. IsStarting s true start text p) first before after learned
+    (learns-weaker (λ f p. IsListed s (start - 1) p) (λ f p. IsTableOf s p.history) (λ f p. IsStarting s true start text p) (λ f p. IsStarting s true start text p)
+    before after (λ f p known. known.0) (λ f p stands known. known) known)
+
 -- the sink failed in the starting table, or it was refused
-pub table_beside : FirstLaw → (s : TableSchema) (from : Option ℕ) (start : ℕ) (e : Refusal) (out out_after : SinkView) (first before after : StoreView)
-    → HasTrace (Starts s from start) first before → LearnsTable s first before → PrintsStart s start out out_after before after (Some e)
-    → PieceBeside (LearnsStart s start) (λ own. Unit {0}) out out_after before after (Some e) → FollowsBeside from true out out_after first after (Some e)
-table_beside law s from start e out out_after first before after (own, starts, trace) learned piece (inl (text, known, (is, failed, took))) =
+pub table_beside : PastStays → FirstLaw → (s : TableSchema) (from : Option ℕ) (start : ℕ) (e : Refusal) (out out_after : SinkView) (first before after : StoreView)
+    → HasTrace (Starts s from start) first before → LearnsBelow s start first before → PrintsStart s start out out_after before after (Some e)
+    → PieceBeside (LearnsStart s start) (TellsBeside s) out out_after before after (Some e) → FollowsBeside from true out out_after first after (Some e)
+table_beside past law s from start e out out_after first before after (own, starts, trace) learned piece (inl (text, known, (is, failed, took))) =
     subst (λ (e : Refusal). FollowsBeside from true out out_after first after (Some e)) (sym is)
     (breaks_off s start 0 text
     (started_so s from start first before after (own, starts, trace) (piece_trace (DidTable s start) out out_after before after (Some e) piece))
     took
-    (begun_first law s true start text first after (started_schema s from start own starts)
-    (learns-then AnyPast (λ f p. IsTableOf s p.history) (λ f p. IsStarting s true start text p) first before after learned known)))
-table_beside law s from start e out out_after first before after starts learned piece (inr (same, goes)) = refuses e same
+    (begun_first law s true start text first after (started_schema s from start own starts) (table_begun s start text first before after learned known)))
+table_beside past law s from start e out out_after first before after starts learned piece (inr (same, told)) =
+    refuses e same (why_start past from s start e out out_after first before after learned piece told)
 
 -- it was printed, or isn't asked for
-pub begun_with : (s : TableSchema) (start : ℕ) (out out_after : SinkView) (first before after : StoreView) → LearnsTable s first before
-    → PieceBeside (LearnsStart s start) (λ own. Unit {0}) out out_after before after None → HasBegun s true start out out_after first after
+pub begun_with : (s : TableSchema) (start : ℕ) (out out_after : SinkView) (first before after : StoreView) → LearnsBelow s start first before
+    → PieceBeside (LearnsStart s start) (TellsBeside s) out out_after before after None → HasBegun s true start out out_after first after
 begun_with s start out out_after first before after learned (text, known, taken) =
-    (text, learns-then AnyPast (λ f p. IsTableOf s p.history) (λ f p. IsStarting s true start text p) first before after learned known, taken)
+    (text, table_begun s start text first before after learned known, taken)
 
-pub begun_without : (s : TableSchema) (start : ℕ) (out : SinkView) (first after : StoreView) → LearnsTable s first after → HasBegun s false start out out first after
+pub begun_without : (s : TableSchema) (start : ℕ) (out : SinkView) (first after : StoreView) → LearnsBelow s start first after → HasBegun s false start out out first after
 begun_without s start out first after learned = (
   [],
-  learns-weaker AnyPast AnyPast (λ f p. IsTableOf s p.history) (λ f p. IsStarting s false start [] p) first after (λ f p known. known)
-      (λ f p stands known. (known, refl)) learned,
+  learns-weaker AnyPast AnyPast (λ f p. IsListed s (start - 1) p) (λ f p. IsStarting s false start [] p) first after (λ f p known. known)
+      (λ f p stands known. (known.0, refl)) learned,
   sym (and_then_nothing out.taken),
 )
 
 -- the second listing was refused
-pub listing_beside : PastStays → FirstLaw → (s : TableSchema) (from : Option ℕ) (full : Bool) (start : ℕ) (text : List ℕ) (e : Refusal) (out out_after : SinkView)
+pub listing_beside : FirstLaw → (s : TableSchema) (from : Option ℕ) (full : Bool) (start : ℕ) (text : List ℕ) (e : Refusal) (out out_after : SinkView)
     (first before after : StoreView) → HasTrace (Opens s from full start text) first before → HasBegun s full start out out_after first before
-    → HasTrace (DidLatest (Err e)) before after → FollowsBeside from full out out_after first after (Some e)
-listing_beside past law s from full start text e out out_after first before after opens (known, begun, taken) did =
-    let (own, are, trace) = listing_reads e before after did in
-    stops e s start 0 known (opened_so s from full start text first before after opens (own, tt, trace)) taken
+    → HasTrace (DidLatest (Err e)) before after → Learns AnyPast (IsTold e) before after → FollowsBeside from full out out_after first after (Some e)
+listing_beside law s from full start text e out out_after first before after opens (known, begun, taken) did told =
+    stops e s start 0 known (opened_so s from full start text first before after opens (any_trace (DidLatest (Err e)) before after did)) taken
     (begun_first law s full start known first after (opened_schema s from full start text first before opens)
     (learns-then AnyPast (λ f p. IsStarting s full start known p) (λ f p. IsStarting s full start known p) first before after begun
-    (reads_learn past (λ h. IsTableOf s h × IsStartOf h full start known) (starting_on s full start known) own before after are trace)))
+    (learns-weaker (λ f p. IsStarting s full start known p) (λ f p. IsStarting s full start known p × AnyPast f p)
+    (λ f p. IsStarting s full start known p × IsTold e f p) (λ f p. IsStarting s full start known p) before after (λ f p so. (so, tt)) (λ f p stands so. so.0)
+    (learns_with (λ h. IsTableOf s h × IsStartOf h full start known) (starting_on s full start known) AnyPast (IsTold e) before after told))))
+    (why_listing from (λ f p. IsStarting s full start known p) e first before after begun did told)
 
 -- what the sink took behind the starting table
 taken_behind : (out between out_after : SinkView) (text frames : List ℕ) → between.taken ≡ and_then out.taken text
@@ -368,9 +410,13 @@ frames_beside law s from full start latest text out between out_after first befo
     (subst (λ (taken : Option (List ℕ)). TookPrefix taken out_after.taken (joined frames)) taken took))
     (frames_first law s full start latest known frames first before now after (opened_schema s from full start text first before opens) begun listed learned))
 frames_beside law s from full start latest text out between out_after first before now after (Some e) opens (known, begun, taken) did listed
-    printed (frames, learned, inr more) =
+    printed (frames, learned, inr (more, told)) =
     stops e s start (length frames) (known ++ joined frames)
     (opened_so s from full start text first before after opens
     (any_twice before now after (any_trace (DidLatest (Ok latest)) before now did) (frames_trace s start latest between out_after now after (Some e) printed)))
     (taken_behind out between out_after known (joined frames) taken more)
     (frames_first law s full start latest known frames first before now after (opened_schema s from full start text first before opens) begun listed learned)
+    (why_frames from s start latest e between out_after first now after
+    (learns-weaker AnyPast AnyPast (λ f p. IsStartOf p.history full start known × IsListed s latest p) (λ f p. IsListed s latest p) first now (λ f p known. known)
+    (λ f p stands known. known.1) (listed_begun s full start latest known first before now begun listed))
+    printed told)

@@ -1,14 +1,24 @@
 -- What calls make known of a history, where something was known of it before, which stays whatever others do.
-use Rattle.std.proofs.Common.{◌≡◌, ℕ, ◌≤◌, Bool, true, false, List, [], ◌∷◌, ◌++◌, length, Option, None, Some, refl, sym, ap, subst, ◌∙◌, append-nil, append_assoc, length-append, arith}
+use Rattle.std.proofs.Common.{◌≡◌, inl, inr, ℕ, ◌≤◌, Bool, true, false, List, [], ◌∷◌, ◌++◌, length, Option, None, Some, refl, sym, ap, subst, ◌∙◌, append-nil, append_assoc, length-append, arith}
+use Rattle.std.specs.FinMap as map
+use Rattle.pm_store.specs.declared.answer.Answer.{Answer}
+use Rattle.pm_store.specs.declared.call.Call.{Call}
+use Rattle.pm_store.specs.declared.call.Effect.TheVariants as effects
 use Rattle.pm_store.specs.declared.call.Op.{Op}
+use Rattle.pm_store.specs.Answers.{Answers}
 use Rattle.pm_store.specs.Files.{Files, files_after}
-use Rattle.pm_store.specs.Store.{Came, StoreView}
+use Rattle.pm_store.specs.Store.{Came, Meanwhile, StoreView, whole}
+use Rattle.pm_store.proofs.StepLaws.{Steps-weaker}
 use Rattle.pm_machine.specs.Beside.{OneLeads, OthersLead}
+use Rattle.pm_machine.specs.Moves.{IsKept, Keeps}
+use Rattle.pm_machine.specs.Step.{Answered}
 use Rattle.pm_schema.specs.declared.schema.TableSchema.{TableSchema}
 use Rattle.pm_model_history.specs.History.{GoesOn, History, IsTableOf, no_table, table}
 use Rattle.pm_model_folder.specs.Ledger.{Past, Stands, count_of}
 use Rattle.pm_model_folder.proofs.Facts.{goes_on}
 use Rattle.pm_read_schema.specs.Beside.{Learns, OthersAdvance}
+use Rattle.pm_read_schema.proofs.BesideFacts.{IsKeptByAll, PastStays, learns-moves, learns-none}
+use Rattle.pm_read_schema.proofs.StillLemmas.{IsStill}
 use Rattle.pm_command_follow.specs.Beside.{IsStartOf}
 
 -- ---- histories that go on
@@ -86,3 +96,33 @@ module _ (K : History → Type 0) (keeps : IsKeptOn K) where
       (λ ops more here h later stands known leads. (
       let found = here h later stands known.1 leads in
       (found.0, (all_led more ops h later leads known.0, found.1))))
+
+  -- ---- calls that change nothing
+
+  keeps_known : IsKeptByAll (λ f p. K p.history)
+  keeps_known other f after p q stands advances known = keeps p.history q.history (goes_on other f after p.history q.history advances.change) known
+
+  -- it stays where no call is made
+  pub learns_on : PastStays → (before after : StoreView) → Meanwhile before after → Learns (λ f p. K p.history) (λ f p. K p.history) before after
+  learns_on past before after meanwhile =
+      learns-moves past (λ f p. K p.history) (λ f p. K p.history) (λ f p. K p.history) before before after keeps_known (learns-none (λ f p. K p.history) before)
+      (inr (meanwhile, λ f p stands known. known))
+
+  -- an answer that no folder shows of which this is known never comes
+  pub learns_never : PastStays → (call : Call) (answer : Answer) (before after : StoreView) → IsStill call
+      → ((f : Files) (p : Past) → Stands f p → K p.history → Answers call answer f → ⊥) → Answered call answer before after
+      → Learns (λ f p. K p.history) (λ f p. ⊥) before after
+  learns_never past call answer before after still none (steps, may) =
+      learns-moves past (λ f p. K p.history) (λ f p. K p.history) (λ f p. ⊥) before before after keeps_known (learns-none (λ f p. K p.history) before)
+      (inl (
+        whole call,
+        refl,
+        Steps-weaker (whole call) (λ ops. Answers call answer (files_after ops)) (λ ops. Keeps Stands IsKept (λ f p. K p.history) (λ f p. ⊥) (whole call) (files_after ops))
+            before after (λ ops told. at (files_after ops) told) steps,
+      ))
+    where
+      at : (f : Files) → Answers call answer f → Keeps Stands IsKept (λ f p. K p.history) (λ f p. ⊥) (whole call) f
+      at f told p stands known = (
+        (λ effect. (p, record { files = λ path. ap (λ (g : Files). map.get g path) (still f effect); past = refl })),
+        (p, record { files = λ path. ap (λ (g : Files). map.get g path) (still f effects.Whole); past = refl }, none f p stands known told),
+      )

@@ -8,7 +8,7 @@ pub mod KnownLemmas
 pub mod LearnLemmas
 pub mod OneLemmas
 pub mod PieceLemmas
-pub mod ReadLemmas
 mod ReplayLemmas
 pub mod StageLemmas
 pub mod TextLemmas
+pub mod WhyLemmas

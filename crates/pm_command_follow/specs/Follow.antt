@@ -7,6 +7,7 @@ use Rattle.pm_base.specs.Known.{and_then}
 use Rattle.pm_values.specs.declared.refusal.Refusal.{Refusal}
 use Rattle.pm_values.specs.declared.refusal.Refusal.TheVariants as refusals
 use Rattle.pm_io.specs.Sink.{SinkView, SinkFailed, SinkLater, TookPrefix}
+use Rattle.pm_store.specs.Files.{Files}
 use Rattle.pm_store.specs.Store.{StoreView, FromFirst}
 use Rattle.pm_machine.specs.Trace.{Event, HasTrace, Traces}
 use Rattle.pm_options.specs.declared.kinds.Producer.TheVariants as producers
@@ -14,10 +15,10 @@ use Rattle.pm_schema.specs.declared.schema.TableSchema.{TableSchema}
 use Rattle.pm_model_history.specs.History.{Entry, History, IsTableOf, no_table, table}
 use Rattle.pm_model_following.specs.Following.{frame}
 use Rattle.pm_model_folder.specs.Folder.{Folder}
-use Rattle.pm_model_folder.specs.Ledger.{count_of}
+use Rattle.pm_model_folder.specs.Ledger.{Past, count_of}
 use Rattle.pm_create.specs.Making.{LeavesFiles}
 use Rattle.pm_draft.specs.Built.{IsBuilt, unbuilt}
-use Rattle.pm_read_schema.specs.Beside.{AnyPast, Learns}
+use Rattle.pm_read_schema.specs.Beside.{AnyPast, IsTold, Learns}
 use Rattle.pm_read_schema.specs.Trace as reader
 use Rattle.pm_read_schema.specs.declared.phase.Phase.TheVariants as readers
 use Rattle.pm_read_latest.specs.AllCalls.{DidLatest}
@@ -163,9 +164,25 @@ LearnsFirst s full start count text before after = Learns AnyPast
     (λ f p. (entries : List Entry) × (p.history ≡ table s entries) × IsFirstOf s entries full start count text)
     before after
 
+-- What a refusal tells of the files and of what they stand for, at the call that shows it: the table tells no changes,
+-- or isn't built; the start that is asked for is above the one after the latest snapshot; or what any reader tells:
+-- there is no table, or the snapshot that it names has gone. No file is damaged.
+abbrev pub IsToldFrom : Option ℕ → Refusal → Files → Past → Type 0
+IsToldFrom from refusals.NoChangelog f p =
+    (s : TableSchema) × IsTableOf s p.history × (s.options.producer ≡ producers.None)
+IsToldFrom from (refusals.Unsupported what text) f p =
+    (s : TableSchema) × IsTableOf s p.history × TellsChanges s × (unbuilt s ≡ Some (refusals.Unsupported what text))
+IsToldFrom from (refusals.NoSnapshot id latest) f p =
+    (from ≡ Some id) × (suc latest < id) × (latest ≤ count_of p.history)
+IsToldFrom from e f p = IsTold e f p
+
+-- it is so of each history that the files stand for, once others changed them by the kinds of change alone
+abbrev pub LearnsWhy : Option ℕ → Refusal → StoreView → StoreView → Type 0
+LearnsWhy from e before after = Learns AnyPast (IsToldFrom from e) before after
+
 -- What was printed, and what it is of the history. All frames were, up to the latest snapshot that was listed, behind
 -- the starting table, if it is asked for. Or a prefix of so many was, where the sink failed; or so many were, before
--- calls that were refused; or nothing was.
+-- calls that were refused; or nothing was. And why they were refused.
 pub data FollowsBeside (from : Option ℕ) (full : Bool) (before after : SinkView) (store store_after : StoreView)
     : Option Refusal → Type 0 where
   prints : (s : TableSchema) (start latest : ℕ) (text : List ℕ)
@@ -178,9 +195,10 @@ pub data FollowsBeside (from : Option ℕ) (full : Bool) (before after : SinkVie
       → FollowsBeside from full before after store store_after (Some (refusals.SinkFault None))
   stops : (e : Refusal) (s : TableSchema) (start count : ℕ) (text : List ℕ)
       → HasTrace (HasStarted s from start) store store_after → after.taken ≡ and_then before.taken text
-      → LearnsFirst s full start count text store store_after
+      → LearnsFirst s full start count text store store_after → LearnsWhy from e store store_after
       → FollowsBeside from full before after store store_after (Some e)
-  refuses : (e : Refusal) → after ≡ before → FollowsBeside from full before after store store_after (Some e)
+  refuses : (e : Refusal) → after ≡ before → LearnsWhy from e store store_after
+      → FollowsBeside from full before after store store_after (Some e)
 
 -- its calls, with what was printed, and what that is of the history
 abbrev pub IsFollowed : Option ℕ → Bool → SinkView → SinkView → StoreView → StoreView → Option Refusal → Type 0

@@ -1,20 +1,18 @@
 -- How the pieces of what `follow` prints are read and printed, each in turn; and what is known of them.
-use Rattle.std.specs.Prelude.{◌≡◌, ◌⊎◌, ℕ, ◌+◌, ◌<◌, ◌≤◌, List, [], ◌∷◌, length, Bool, true, false}
+use Rattle.std.specs.Prelude.{◌≡◌, ◌⊎◌, ℕ, ◌+◌, ◌-◌, ◌<◌, ◌≤◌, List, length, Bool, true, false}
 use Rattle.std.specs.Prelude.{Option, None, Some, Result, Ok, Err}
 use Rattle.pm_base.specs.Known.{and_then}
 use Rattle.pm_values.specs.declared.refusal.Refusal.{Refusal}
 use Rattle.pm_values.specs.declared.refusal.Refusal.TheVariants as refusals
 use Rattle.pm_io.specs.Sink.{SinkView, SinkFailed, TookPrefix}
-use Rattle.pm_store.specs.Files.{Files, after_effect}
+use Rattle.pm_store.specs.Files.{Files}
 use Rattle.pm_store.specs.Store.{StoreView}
-use Rattle.pm_store.specs.declared.call.Call.{Call}
-use Rattle.pm_store.specs.declared.call.Effect.{Effect}
 use Rattle.pm_machine.specs.Trace.{Event, HasTrace}
 use Rattle.pm_schema.specs.declared.schema.TableSchema.{TableSchema}
 use Rattle.pm_snapshot.specs.Names.{greatest}
 use Rattle.pm_model_history.specs.History.{IsTableOf}
 use Rattle.pm_model_folder.specs.Ledger.{Past, count_of}
-use Rattle.pm_read_schema.specs.Beside.{AnyPast, Learns}
+use Rattle.pm_read_schema.specs.Beside.{AnyPast, IsTold, Learns}
 use Rattle.pm_read_frame.specs.AllCalls.{DidFrame}
 use Rattle.pm_read_frame.specs.Frames.{AreFramesFrom, joined}
 use Rattle.pm_read_frame.specs.Meaning.{IsFrame}
@@ -71,28 +69,27 @@ IsStarting s full start text p = IsTableOf s p.history × IsStartOf p.history fu
 abbrev pub LearnsStart : TableSchema → ℕ → List ℕ → StoreView → StoreView → Type 0
 LearnsStart s start text = Learns (λ f p. IsTableOf s p.history) (λ f p. IsStarting s true start text p)
 
--- or the frame of a snapshot
+-- the table has this schema, and the snapshot was committed
+abbrev pub IsCommittedOf : TableSchema → ℕ → Files → Past → Type 0
+IsCommittedOf s id f p = IsTableOf s p.history × (id ≤ greatest) × (id ≤ count_of p.history)
+
+-- the text that was read is the frame of that snapshot
 abbrev pub LearnsFrame : TableSchema → ℕ → List ℕ → StoreView → StoreView → Type 0
-LearnsFrame s id text = Learns (λ f p. IsTableOf s p.history × (id ≤ greatest) × (id ≤ count_of p.history))
-    (λ f p. IsFrame p id text)
+LearnsFrame s id text = Learns (IsCommittedOf s id) (λ f p. IsFrame p id text)
 
--- the call reads: whatever of it is carried out, it changes nothing
-abbrev pub IsRead : Call → Type 0
-IsRead call = (effect : Effect) (f : Files) → after_effect call effect f ≡ f
+-- or it wasn't read, and the refusal tells what is so
+abbrev pub RefusesFrame : TableSchema → ℕ → Refusal → StoreView → StoreView → Type 0
+RefusesFrame s id e = Learns (IsCommittedOf s id) (IsTold e)
 
-abbrev pub AreReads : List Event → Type 0
-AreReads [] = Unit {0}
-AreReads (event ∷ own) = IsRead event.call × AreReads own
-
--- The text of a piece was printed, of which this is known; or the sink failed in it; or calls of this kind were
--- refused, and nothing was printed.
-abbrev pub PieceBeside : (List ℕ → StoreView → StoreView → Type 0) → (List Event → Type 0) → SinkView → SinkView
-    → StoreView → StoreView → Option Refusal → Type 0
+-- The text of a piece was printed, of which this is known; or the sink failed in it; or the calls for it were refused
+-- so, and nothing was printed.
+abbrev pub PieceBeside : (List ℕ → StoreView → StoreView → Type 0) → (Refusal → StoreView → StoreView → Type 0)
+    → SinkView → SinkView → StoreView → StoreView → Option Refusal → Type 0
 PieceBeside learns refused out out_after store store_after None =
     (text : List ℕ) × learns text store store_after × (out_after.taken ≡ and_then out.taken text)
 PieceBeside learns refused out out_after store store_after (Some e) =
     ((text : List ℕ) × learns text store store_after × FailsIn text out out_after e)
-    ⊎ ((out_after ≡ out) × HasTrace refused store store_after)
+    ⊎ ((out_after ≡ out) × refused e store store_after)
 
 -- Private: the table has this schema, and the snapshots up to one that was listed as the latest
 abbrev pub IsListed : TableSchema → ℕ → Past → Type 0
@@ -108,14 +105,20 @@ abbrev pub HasLearned : TableSchema → ℕ → ℕ → ℕ → SinkView → Sin
 HasLearned s start latest count out out_after store store_after = (frames : List (List ℕ)) × (length frames ≡ count)
     × LearnsFrames s start latest frames store store_after × (out_after.taken ≡ and_then out.taken (joined frames))
 
--- Private: all up to the latest were; or the sink failed; or those were that had been read before a refusal
+-- Private: the snapshot below the start was committed, or is the origin
+abbrev pub LearnsBelow : TableSchema → ℕ → StoreView → StoreView → Type 0
+LearnsBelow s start = Learns AnyPast (λ f p. IsListed s (start - 1) p)
+
+-- Private: all up to the latest were; or the sink failed; or those were that had been read before a refusal, which
+-- tells what is so
 abbrev pub FramesBeside : TableSchema → ℕ → ℕ → SinkView → SinkView → StoreView → StoreView → Option Refusal → Type 0
 FramesBeside s start latest out out_after store store_after None =
     HasLearned s start latest (count_from start latest) out out_after store store_after
 FramesBeside s start latest out out_after store store_after (Some e) = (frames : List (List ℕ))
     × LearnsFrames s start latest frames store store_after
     × (((e ≡ refusals.SinkFault None) × TookPrefix out.taken out_after.taken (joined frames))
-    ⊎ (out_after.taken ≡ and_then out.taken (joined frames)))
+    ⊎ ((out_after.taken ≡ and_then out.taken (joined frames))
+    × Learns (λ f p. IsListed s latest p) (IsTold e) store store_after))
 
 -- Private: the starting table was printed, where it is asked for, and is known
 abbrev pub HasBegun : TableSchema → Bool → ℕ → SinkView → SinkView → StoreView → StoreView → Type 0

@@ -10,8 +10,8 @@ ghost use Rattle.pm_snapshot.specs.Names.{greatest};
 ghost use Rattle.pm_store.specs.Store.{StoreView, IsLater};
 ghost use Rattle.pm_values.specs.declared.refusal.Refusal.TheVariants as refusals;
 ghost use Rattle.pm_command_follow.specs.Follow.{DidSchema, FollowsAny, FollowsBeside, HasEnded, HasSchema};
-ghost use Rattle.pm_command_follow.specs.Follow.{IsFollowed, Opens, Starts, Took};
-ghost use Rattle.pm_command_follow.specs.Pieces.{HasBegun, LearnsTable};
+ghost use Rattle.pm_command_follow.specs.Follow.{IsFollowed, LearnsWhy, Opens, Starts, Took};
+ghost use Rattle.pm_command_follow.specs.Pieces.{HasBegun, LearnsBelow, LearnsTable};
 ghost use Rattle.pm_command_follow.specs.Printed.{start_of};
 
 use crate::laws::{follow_law, pieces_law};
@@ -31,8 +31,8 @@ use std::alloc::Global;
 /// where it is asked for in full, the table that is passed on at the one below. Whatever others do meanwhile, this is a
 /// prefix of what is printed of the history. Refuses with `NoTable`; `NoChangelog`, before any call after the schema's,
 /// where the table has no producer; `Unsupported`; `NoSnapshot` for a start above the newest and one; `Expired` for a
-/// snapshot that has gone; `StoreFault`; `SinkFault`; or out of memory. Where others act or the files are damaged it
-/// passes on what their readers refuse.
+/// snapshot that has gone; `StoreFault`; `SinkFault`; or out of memory. Whatever others do, what a refusal tells is so
+/// at the call that shows it. Where the files are damaged it passes on what their readers refuse.
 pub fn run_follow<W: Sink, F: FileStore>(
     alloc: Global,
     from: Option<u64>,
@@ -58,6 +58,7 @@ pub fn run_follow<W: Sink, F: FileStore>(
 pub fn followed_schema<F: FileStore>(alloc: Global, store: &mut F) -> Result<TableSchema, Refusal>
     ensures trace { HasTrace (DidSchema result) (F.seen store.old) (F.seen store.new) }
     ensures beside { IfOk result (λ s. LearnsTable s (F.seen store.old) (F.seen store.new)) }
+    ensures refused { (from : Option ℕ) → IfErr result (λ e. LearnsWhy from e (F.seen store.old) (F.seen store.new)) }
     ensures declared { IfOk result IsDeclared }
     ensures later { IsLater (F.seen store.old) (F.seen store.new) }
 {
@@ -126,7 +127,7 @@ fn follow_from<W: Sink, F: FileStore>(
         → HasEnded from full (W.seen out.old) (W.seen out.new) first (F.seen store.new) (result_err result) }
     ensures beside { (from : Option ℕ) (first : StoreView)
         → HasTrace (Starts schema.now from start) first (F.seen store.old)
-        → LearnsTable schema.now first (F.seen store.old)
+        → LearnsBelow schema.now start first (F.seen store.old)
         → FollowsBeside from full (W.seen out.old) (W.seen out.new) first (F.seen store.new) (result_err result) }
     ensures out_later { SinkLater (W.seen out.old) (W.seen out.new) }
     ensures store_later { IsLater (F.seen store.old) (F.seen store.new) }
@@ -152,12 +153,13 @@ fn follow_with_table<W: Sink, F: FileStore>(
         → HasEnded from true (W.seen out.old) (W.seen out.new) first (F.seen store.new) (result_err result) }
     ensures beside { (from : Option ℕ) (first : StoreView)
         → HasTrace (Starts schema.now from start) first (F.seen store.old)
-        → LearnsTable schema.now first (F.seen store.old)
+        → LearnsBelow schema.now start first (F.seen store.old)
         → FollowsBeside from true (W.seen out.old) (W.seen out.new) first (F.seen store.new) (result_err result) }
     ensures out_later { SinkLater (W.seen out.old) (W.seen out.new) }
     ensures store_later { IsLater (F.seen store.old) (F.seen store.new) }
 {
     pieces_law();
+    past_law();
     print_table(alloc, schema, start, out, store)?;
     follow_on(alloc, schema, start, out, store)
 }
@@ -184,7 +186,6 @@ fn follow_on<W: Sink, F: FileStore>(
     ensures store_later { IsLater (F.seen store.old) (F.seen store.new) }
 {
     pieces_law();
-    past_law();
     let latest = read_latest(alloc, store)?;
     print_frames(alloc, schema, start, latest, out, store)
 }

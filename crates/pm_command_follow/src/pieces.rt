@@ -1,6 +1,6 @@
 //! The pieces of what `follow` prints, each read and then printed.
 
-ghost use Rattle.std.specs.Prelude.{◌≡◌, ◌++◌, ◌≤◌, IfOk};
+ghost use Rattle.std.specs.Prelude.{◌≡◌, ◌++◌, ◌≤◌, IfErr, IfOk};
 ghost use Rattle.std.specs.Result.{result_err};
 ghost use Rattle.pm_io.specs.Sink.{SinkLater};
 ghost use Rattle.pm_machine.specs.Trace.{HasTrace};
@@ -11,17 +11,17 @@ ghost use Rattle.pm_snapshot.specs.Names.{greatest};
 ghost use Rattle.pm_store.specs.Store.{IsLater};
 ghost use Rattle.pm_model_history.specs.History.{IsTableOf};
 ghost use Rattle.pm_read_schema.specs.Beside.{Learns};
+ghost use Rattle.pm_scan.specs.Beside.{TellsBeside};
 ghost use Rattle.pm_scan.specs.Meaning.{IsPassed};
 ghost use Rattle.pm_command_follow.specs.Follow.{DidTable};
-ghost use Rattle.pm_command_follow.specs.Pieces.{AreReads, FramesBeside, LearnsFrame, LearnsStart, PieceBeside};
-ghost use Rattle.pm_command_follow.specs.Pieces.{PrintsFrame, PrintsFrames, PrintsStart};
+ghost use Rattle.pm_command_follow.specs.Pieces.{FramesBeside, LearnsFrame, LearnsStart, PieceBeside};
+ghost use Rattle.pm_command_follow.specs.Pieces.{PrintsFrame, PrintsFrames, PrintsStart, RefusesFrame};
 ghost use Rattle.pm_command_follow.specs.Printed.{table_head};
 
 use itoa::Buffer;
 use pm_command::print;
 use pm_engines::declared_law;
 use pm_io::Sink;
-use pm_model_folder::past_law;
 use pm_read_frame::{frames_law, read_frame};
 use pm_scan::scan_passed;
 use pm_schema::TableSchema;
@@ -41,8 +41,8 @@ pub fn print_table<W: Sink, F: FileStore>(
     requires start { 1 ≤ start }
     ensures prints { PrintsStart schema.now start (W.seen out.old) (W.seen out.new) (F.seen store.old)
         (F.seen store.new) (result_err result) }
-    ensures beside { PieceBeside (LearnsStart schema.now start) (λ own. Unit {0}) (W.seen out.old) (W.seen out.new)
-        (F.seen store.old) (F.seen store.new) (result_err result) }
+    ensures beside { PieceBeside (LearnsStart schema.now start) (TellsBeside schema.now) (W.seen out.old)
+        (W.seen out.new) (F.seen store.old) (F.seen store.new) (result_err result) }
     ensures out_later { SinkLater (W.seen out.old) (W.seen out.new) }
     ensures store_later { IsLater (F.seen store.old) (F.seen store.new) }
 {
@@ -62,6 +62,7 @@ fn read_table<F: FileStore>(
     ensures trace { HasTrace (DidTable schema.now start (text_in result)) (F.seen store.old) (F.seen store.new) }
     ensures beside { IfOk result (λ text. LearnsStart schema.now start text.items (F.seen store.old)
         (F.seen store.new)) }
+    ensures refused { IfErr result (λ e. TellsBeside schema.now e (F.seen store.old) (F.seen store.new)) }
     ensures later { IsLater (F.seen store.old) (F.seen store.new) }
 {
     let below = start - 1;
@@ -84,6 +85,7 @@ fn read_passed<F: FileStore>(
         (F.seen store.new) }
     ensures beside { IfOk result (λ text. Learns (λ f p. IsTableOf schema.now p.history)
         (λ f p. IsPassed p id text.items) (F.seen store.old) (F.seen store.new)) }
+    ensures refused { IfErr result (λ e. TellsBeside schema.now e (F.seen store.old) (F.seen store.new)) }
     ensures later { IsLater (F.seen store.old) (F.seen store.new) }
 {
     declared_law();
@@ -129,7 +131,6 @@ pub(crate) fn print_frames<W: Sink, F: FileStore>(
     ensures store_later { IsLater (F.seen store.old) (F.seen store.new) }
 {
     frames_law();
-    past_law();
     let mut id = start;
     while id <= latest {
         print_frame(alloc, schema, id, out, store)?;
@@ -150,8 +151,8 @@ pub fn print_frame<W: Sink, F: FileStore>(
     requires after_origin { 1 ≤ id }
     ensures prints { PrintsFrame schema.now id (W.seen out.old) (W.seen out.new) (F.seen store.old) (F.seen store.new)
         (result_err result) }
-    ensures beside { PieceBeside (LearnsFrame schema.now id) AreReads (W.seen out.old) (W.seen out.new)
-        (F.seen store.old) (F.seen store.new) (result_err result) }
+    ensures beside { PieceBeside (LearnsFrame schema.now id) (RefusesFrame schema.now id) (W.seen out.old)
+        (W.seen out.new) (F.seen store.old) (F.seen store.new) (result_err result) }
     ensures out_later { SinkLater (W.seen out.old) (W.seen out.new) }
     ensures store_later { IsLater (F.seen store.old) (F.seen store.new) }
 {

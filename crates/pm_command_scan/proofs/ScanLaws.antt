@@ -1,5 +1,5 @@
 -- Laws of `scan`: what is so of its calls, and of a history.
-use Rattle.std.proofs.Common.{◌≡◌, ◌⊎◌, inl, inr, ℕ, List, ◌++◌, IfOk, Option, None, Some, IsSome, Result, Ok, Err, Vec, refl, sym, subst, ap, ◌∙◌}
+use Rattle.std.proofs.Common.{◌≡◌, ◌⊎◌, inl, inr, ℕ, List, ◌++◌, IfErr, IfOk, Option, None, Some, IsSome, Result, Ok, Err, Vec, refl, sym, subst, ap, ◌∙◌}
 use Rattle.std.specs.FinMap as map
 use Rattle.std.specs.Global.{Global}
 use Rattle.std.specs.Result.{result_err}
@@ -16,15 +16,16 @@ use Rattle.pm_schema.specs.declared.schema.TableSchema.{TableSchema}
 use Rattle.pm_model_folder.specs.Folder.{Folder}
 use Rattle.pm_model_folder.specs.Ledger.{count_of}
 use Rattle.pm_read_schema.specs.AllCalls.{DidRead, HasFiles, Stay, ReadsTables}
-use Rattle.pm_read_schema.specs.Beside.{AnyPast, Learns}
+use Rattle.pm_read_schema.specs.Beside.{AnyPast, IsTold, Learns}
 use Rattle.pm_read_schema.proofs.BesideFacts.{learns-then}
 use Rattle.pm_draft.specs.Built.{IsBuilt, unbuilt}
 use Rattle.pm_scan.specs.AllCalls as scanner
 use Rattle.pm_scan.specs.AllCalls.{id_of, path_of, text_in, PrintsScan}
-use Rattle.pm_scan.specs.Beside.{ScansBeside}
+use Rattle.pm_scan.specs.Beside.{ScansBeside, TellsBeside}
 use Rattle.pm_scan.specs.Meaning.{IsScan}
 use Rattle.pm_command.specs.Outside.{Outside, Prints}
 use Rattle.pm_command.specs.Table as tables
+use Rattle.pm_command.specs.Table.{EndsAtSchema}
 use Rattle.pm_command_scan.specs.Scan.{DidScan, text_of, Scans, MayRefuse, IsThere, PrintsTable, PrintsPrefix, AnswersHistory, ScansTables, MadeBeside, MakesText, Keeps, KeepsHistories, IsScanned}
 use Rattle.pm_command.proofs.TableLemmas.{trace_weaker, files_of, leaves_of, rests_of, images_rest, caused, judged_caused}
 
@@ -45,12 +46,19 @@ scanned_trace at s (Err e) before after built = trace_weaker (scanner.DidScan s 
 
 -- ---- what they make known
 
+-- where the schema isn't built
+pub judged_beside : (at : Option ℕ) (s : TableSchema) (e : Refusal) (before after : StoreView) → (e ≡ refusals.Memory) ⊎ (unbuilt s ≡ Some e)
+    → HasTrace (DidRead (Ok s)) before after → MadeBeside at (Err e) before after
+judged_beside at s e before after why read = inl (trace_weaker (DidRead (Ok s)) (EndsAtSchema e) (λ own has. (s, why, has)) before after read)
+
 -- calls that read the schema, and those of a scan after them
 pub scanned_beside : (at : Option ℕ) (s : TableSchema) (made : Result (Vec ℕ Global) Refusal) (before middle after : StoreView)
     → HasTrace (DidRead (Ok s)) before middle → Learns AnyPast (λ f p. IsTableOf s p.history) before middle
-    → IfOk made (λ text. ScansBeside s at text.items middle after) → MadeBeside at (text_in made) before after
-scanned_beside at s (Err e) before middle after read learned scans = tt
-scanned_beside at s (Ok text) before middle after (earlier, did, first) learned (id, (later, has, then_came), knows) = (
+    → IfOk made (λ text. ScansBeside s at text.items middle after) → IfErr made (λ refusal. TellsBeside s refusal middle after)
+    → MadeBeside at (text_in made) before after
+scanned_beside at s (Err e) before middle after read learned scans told =
+    inr (learns-then AnyPast (λ f p. IsTableOf s p.history) (IsTold e) before middle after learned told)
+scanned_beside at s (Ok text) before middle after (earlier, did, first) learned (id, (later, has, then_came), knows) told = (
   s,
   id,
   (earlier ++ later, (earlier, later, did, has, refl), Traces-join earlier later before middle after first then_came),
@@ -124,8 +132,8 @@ scanned_keeps at s made before after built scans = λ alone h stands.
 -- ---- and what was printed
 
 pub refused_scanned : (at : Option ℕ) (e : Refusal) (out : SinkView) (store after : StoreView) → HasTrace (DidScan at (Err e)) store after
-    → KeepsHistories at store after (Err e) → IsScanned at out out store after (Some e)
-refused_scanned at e out store after trace kept = (Err e, trace, tt, kept, (refl, refl))
+    → MadeBeside at (Err e) store after → KeepsHistories at store after (Err e) → IsScanned at out out store after (Some e)
+refused_scanned at e out store after trace beside kept = (Err e, trace, beside, kept, (refl, refl))
 
 pub printed_scanned : (at : Option ℕ) (text printed : List ℕ) (out out_after : SinkView) (store after : StoreView) (answer : Option Refusal)
     → printed ≡ text → HasTrace (DidScan at (Ok text)) store after → MadeBeside at (Ok text) store after → KeepsHistories at store after (Ok text)

@@ -1,5 +1,5 @@
 -- Laws of `snapshots`: what is so of its calls, and of a history.
-use Rattle.std.proofs.Common.{◌≡◌, ◌≢◌, ◌⊎◌, inl, inr, ℕ, List, [], ◌∷◌, IfOk, Option, None, Some, Result, Ok, Err, refl, sym, subst, ◌++◌, ap, append_assoc, ◌∙◌}
+use Rattle.std.proofs.Common.{◌≡◌, ◌≢◌, ◌⊎◌, inl, inr, ℕ, List, [], ◌∷◌, IfErr, IfOk, Option, None, Some, Result, Ok, Err, refl, sym, subst, ◌++◌, ap, append_assoc, ◌∙◌}
 use Rattle.std.specs.Result.{result_err}
 use Rattle.pm_values.specs.declared.refusal.Refusal.{Refusal}
 use Rattle.pm_values.specs.declared.refusal.Refusal.TheVariants as refusals
@@ -11,8 +11,8 @@ use Rattle.pm_model_history.specs.History.{History, IsTableOf, no_table}
 use Rattle.pm_schema.specs.declared.schema.TableSchema.{TableSchema}
 use Rattle.pm_model_folder.specs.Folder.{Folder}
 use Rattle.pm_read_schema.specs.AllCalls.{DidRead, HasFiles, Stay, ReadsTables}
-use Rattle.pm_read_schema.specs.Beside.{AnyPast, Learns}
-use Rattle.pm_read_schema.proofs.BesideFacts.{learns-then}
+use Rattle.pm_read_schema.specs.Beside.{AnyPast, IsTold, Learns}
+use Rattle.pm_read_schema.proofs.BesideFacts.{learns-then, learns-weaker}
 use Rattle.pm_read_schema.specs.Trace.{listed_snapshots}
 use Rattle.pm_draft.specs.Built.{IsBuilt, unbuilt}
 use Rattle.pm_snapshots.specs.AllCalls as lister
@@ -22,7 +22,7 @@ use Rattle.pm_snapshots.specs.Trace.{HasListed}
 use Rattle.pm_snapshots.specs.declared.line.SnapshotLine.{SnapshotLine}
 use Rattle.pm_snapshots.specs.declared.phase.Phase.{Phase}
 use Rattle.pm_command.specs.Outside.{Outside, Prints}
-use Rattle.pm_command.specs.Table.{MayRefuse}
+use Rattle.pm_command.specs.Table.{EndsAtSchema, MayRefuse}
 use Rattle.pm_command.proofs.TableLemmas.{trace_weaker, files_of, leaves_of, rests_of, images_rest, caused, judged_caused}
 use Rattle.pm_command_snapshots.specs.Snapshots.{DidSnapshots, text_of, ListsSnapshots, AnswersHistory, ListsTables, MadeBeside, made_of, MakesLines, Keeps, KeepsHistories, IsListed}
 
@@ -62,10 +62,24 @@ memory_trace lines before after =
 -- calls that read the schema, and those of a listing after them
 pub listed_known : (s : TableSchema) (result : Result Phase Refusal) (before middle after : StoreView) → HasTrace (lister.DidList s result) before after
     → Learns AnyPast (λ f p. IsTableOf s p.history) before middle → IfOk result (λ m. ListsBeside s (lines_of m) middle after)
-    → MadeBeside (made_of result) before after
-listed_known s (Err e) before middle after did learned lists = tt
-listed_known s (Ok m) before middle after did learned lists =
+    → IfErr result (λ e. Learns (λ f p. IsTableOf s p.history) (IsTold e) middle after) → MadeBeside (made_of result) before after
+listed_known s (Err e) before middle after did learned lists refused =
+    inr (learns-then AnyPast (λ f p. IsTableOf s p.history) (IsTold e) before middle after learned refused)
+listed_known s (Ok m) before middle after did learned lists refused =
     (s, did, learns-then AnyPast (λ f p. IsTableOf s p.history) (λ f p. AreLinesIn s (lines_of m) p) before middle after learned lists)
+
+-- or those that read no schema, or end with one that isn't built
+pub read_told : (e : Refusal) (before after : StoreView) → Learns AnyPast (IsTold e) before after → MadeBeside (made_of (Err e)) before after
+read_told e before after told = inr told
+
+pub judge_known : (s : TableSchema) (e : Refusal) (before after : StoreView) → (e ≡ refusals.Memory) ⊎ (unbuilt s ≡ Some e)
+    → HasTrace (DidRead (Ok s)) before after → MadeBeside (made_of (Err e)) before after
+judge_known s e before after why did = inl (trace_weaker (DidRead (Ok s)) (EndsAtSchema e) (λ own has. (s, why, has)) before after did)
+
+-- where memory runs out for the text that is told of what the lines are
+memory_known : (lines : List SnapshotLine) (before after : StoreView) → MadeBeside (Ok lines) before after → MadeBeside (Err refusals.Memory) before after
+memory_known lines before after (s, trace, learned) =
+    inr (learns-weaker AnyPast AnyPast (λ f p. AreLinesIn s lines p) (IsTold refusals.Memory) before after (λ f p known. known) (λ f p stands known. tt) learned)
 
 -- ---- files that stay
 
@@ -117,13 +131,13 @@ memory_keeps lines before after kept = λ alone h stands. let was = kept alone h
 -- ---- and what was printed
 
 pub refused_listed : (e : Refusal) (out : SinkView) (store after : StoreView) → HasTrace (DidSnapshots (made_of (Err e))) store after
-    → KeepsHistories store after (made_of (Err e)) → IsListed out out store after (Some e)
-refused_listed e out store after trace kept = (Err e, trace, tt, kept, (refl, refl))
+    → MadeBeside (made_of (Err e)) store after → KeepsHistories store after (made_of (Err e)) → IsListed out out store after (Some e)
+refused_listed e out store after trace beside kept = (Err e, trace, beside, kept, (refl, refl))
 
 pub memory_listed : (m : Phase) (out : SinkView) (store after : StoreView) → HasTrace (DidSnapshots (made_of (Ok m))) store after
-    → KeepsHistories store after (made_of (Ok m)) → IsListed out out store after (Some refusals.Memory)
-memory_listed m out store after trace kept =
-    (Err refusals.Memory, memory_trace (lines_of m) store after trace, tt, memory_keeps (lines_of m) store after kept, (refl, refl))
+    → MadeBeside (made_of (Ok m)) store after → KeepsHistories store after (made_of (Ok m)) → IsListed out out store after (Some refusals.Memory)
+memory_listed m out store after trace beside kept =
+    (Err refusals.Memory, memory_trace (lines_of m) store after trace, memory_known (lines_of m) store after beside, memory_keeps (lines_of m) store after kept, (refl, refl))
 
 pub printed_listed : (m : Phase) (text : List ℕ) (out out_after : SinkView) (store after : StoreView) (answer : Option Refusal) → text ≡ text_of (made_of (Ok m))
     → HasTrace (DidSnapshots (made_of (Ok m))) store after → MadeBeside (made_of (Ok m)) store after → KeepsHistories store after (made_of (Ok m)) → Prints text None None out out_after answer

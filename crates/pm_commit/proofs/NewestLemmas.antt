@@ -34,7 +34,8 @@ use Rattle.pm_paths.specs.Ids.{IsLatest}
 use Rattle.pm_paths.proofs.ListedLemmas.{latest_is}
 use Rattle.pm_read_table.specs.Asked.{Asked, SoughtView, sought_of}
 use Rattle.pm_read_table.specs.Meaning as reader_meaning
-use Rattle.pm_read_table.specs.Meaning.{HasGone, IsExpired}
+use Rattle.pm_read_schema.specs.Beside.{IsExpired}
+use Rattle.pm_read_table.specs.Meaning.{HasGone}
 use Rattle.pm_read_table.specs.Reader as reader
 use Rattle.pm_read_table.specs.Reader.{disorder, opening, overlap}
 use Rattle.pm_read_table.specs.Reading.{Filed}

@@ -19,6 +19,7 @@ use Rattle.pm_model_folder.specs.Entries.{IsFenced}
 use Rattle.pm_model_folder.specs.Ledger.{Advances, HasNamedNone, IsKnown, Past, Stands, count_of}
 use Rattle.pm_model_folder.specs.Meaning.{SnapshotAt}
 use Rattle.pm_model_folder.specs.Paths.{snapshot_path}
+use Rattle.pm_read_schema.specs.Beside.{IsExpired}
 use Rattle.pm_read_table.specs.Meaning as reader
 use Rattle.pm_read_table.specs.Meaning.{IsViewIn}
 use Rattle.pm_read_table.specs.declared.asked.Wanted.TheVariants as wants
@@ -240,7 +241,7 @@ IsDenied own p refusal = (found : Found) × (base : ℕ) × IsFoundIn p found
 -- an append needs.
 abbrev pub MayRefuseOwn : OwnView → Files → Past → Refusal → Type 0
 MayRefuseOwn own f p refusals.Memory = Unit {0}
-MayRefuseOwn own f p (refusals.Expired id) = reader.IsExpired f p id
+MayRefuseOwn own f p (refusals.Expired id) = IsExpired f p id
 MayRefuseOwn own f p (refusals.SessionUsed path) = IsMet own f path
 MayRefuseOwn own f p (refusals.Fenced base fence) = IsDenied own p (refusals.Fenced base fence)
 MayRefuseOwn own f p (refusals.CompactTaken file) =

@@ -23,6 +23,7 @@ use Rattle.pm_plan.specs.Known.{KnowsPlanned}
 use Rattle.pm_plan.specs.Planned.{AllRewritten, HasTold}
 use Rattle.pm_plan.specs.declared.planned.Planned.{Planned}
 use Rattle.pm_compaction.specs.Plan.{RewrittenGroup}
+use Rattle.pm_read_schema.specs.Beside.{IsExpired}
 use Rattle.pm_read_table.specs.Meaning as reader
 use Rattle.pm_group_files.specs.Chosen.{Chosen, chosen_of}
 use Rattle.pm_group_files.specs.Jobs.{Wanted}
@@ -124,7 +125,7 @@ IsMarked names f path =
 -- read, so that no snapshot is asked for that never was.
 abbrev pub MayRefuseView : Files → Past → Refusal → Type 0
 MayRefuseView f p refusals.Memory = Unit {0}
-MayRefuseView f p (refusals.Expired id) = reader.IsExpired f p id
+MayRefuseView f p (refusals.Expired id) = IsExpired f p id
 MayRefuseView f p other = ⊥
 
 -- of the listing
@@ -138,7 +139,7 @@ MayRefuseNames x f other = ⊥
 -- runs, as they stood there, leaves no room.
 abbrev pub MayRefusePlanned : Planned → Files → Past → Refusal → Type 0
 MayRefusePlanned x f p refusals.Memory = Unit {0}
-MayRefusePlanned x f p (refusals.Expired id) = reader.IsExpired f p id
+MayRefusePlanned x f p (refusals.Expired id) = IsExpired f p id
 MayRefusePlanned x f p (refusals.Limit which number) = (made all : Planned) × (groups : List GroupRead)
     × AllZip (IsReadAs (p.stood x.newest.id) x.schema) (wanted_in x) groups
     × AllRewritten x groups made × HasTold made all × RefusesPlan all (refusals.Limit which number)

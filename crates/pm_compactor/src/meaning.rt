@@ -23,6 +23,8 @@ impl PhaseMeaning for Phase {
 
     ghost knows = { Knows };
 
+    ghost tells = { λ refusal f p. Unit {0} };
+
     ghost Asked = { traces.AskedOf };
 
     ghost did = { Did };

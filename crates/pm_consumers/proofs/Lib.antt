@@ -1,5 +1,6 @@
 pub mod AllCallsLemmas
 mod BesideLemmas
+pub mod CauseLemmas
 pub mod Facts
 mod NameLemmas
 pub mod OneLemmas

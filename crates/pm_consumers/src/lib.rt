@@ -19,7 +19,7 @@ mod phase;
 mod reading;
 
 pub use all_calls::list_consumers;
-pub use laws::{all_calls_law, images_law, listed_law, one_answer_law};
+pub use laws::{all_calls_law, causes_law, images_law, listed_law, one_answer_law};
 pub use lister::{Lister, consumer_lister, into_consumers, is_list_done};
 pub use phase::Phase;
 pub use reading::Reading;

@@ -6,7 +6,7 @@ ghost use Rattle.std.specs.Ordering.{nat_cmp};
 ghost use Rattle.std.specs.Prelude.{◌≡◌, None, Some, IfErr, IfOk, IsSome};
 ghost use Rattle.pm_model_folder.specs.Ledger as ledgers;
 ghost use Rattle.pm_store.specs.declared.answer.Answer.TheVariants as answers;
-ghost use Rattle.pm_read_schema.specs.Beside.{AnyPast};
+ghost use Rattle.pm_read_schema.specs.Beside.{AnyPast, IsTold};
 ghost use Rattle.pm_consumers.specs.Lister.{calls_left, next_call, Goes, IsDone, MayRefuse, Shown};
 ghost use Rattle.pm_consumers.specs.Reading.{next_name};
 ghost use Rattle.pm_consumers.specs.Trace.{Did, Shows};
@@ -68,6 +68,8 @@ impl ReaderPhase for Phase {
     ghost Folder = { ledgers.Stands };
 
     ghost knows = { λ phase. AnyPast };
+
+    ghost tells = { IsTold };
 
     ghost Asked = { Unit {0} };
 

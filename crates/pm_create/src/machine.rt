@@ -76,6 +76,8 @@ impl PhaseMeaning for Phase {
 
     ghost knows = { KnowsBeside };
 
+    ghost tells = { λ refusal f p. Unit {0} };
+
     ghost Asked = { creators.NewTable };
 
     ghost did = { Did };

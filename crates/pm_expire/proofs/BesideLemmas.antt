@@ -18,7 +18,7 @@ use Rattle.pm_model_folder.specs.Changes.{Actor, HavePlainNames}
 use Rattle.pm_model_folder.specs.Ledger.{Advances, Past, Stands}
 use Rattle.pm_create.specs.Making.{LeavesFiles}
 use Rattle.pm_remove.specs.declared.phase.Phase.TheVariants as removers
-use Rattle.pm_read_schema.specs.Beside.{OthersAdvance}
+use Rattle.pm_read_schema.specs.Beside.{IsTold, OthersAdvance}
 use Rattle.pm_beside.specs.Bringing.{Brings}
 use Rattle.pm_beside.proofs.BringLemmas.{brings-moves, brings-none, brings-then, brings-weaker}
 use Rattle.pm_snapshots.specs.AllCalls.{GoesOnFrom}
@@ -30,7 +30,7 @@ use Rattle.pm_announce.specs.declared.phase.Phase.TheVariants as announcers
 use Rattle.pm_expire.specs.AllCalls.{DidExpire}
 use Rattle.pm_expire.specs.Beside.{BringsFrom, Expires, ExpiresAlone, ExpiresBeside, ExpiresFrom, HasCome, KnowsAnswer, StandsKnown, announces, changes_none, removes}
 use Rattle.pm_expire.specs.Expirer.{calls_left}
-use Rattle.pm_expire.specs.Meaning.{ExpirerMoved, Knows, Makes}
+use Rattle.pm_expire.specs.Meaning.{ExpirerMoved, ExpirerTold, Knows, Makes}
 use Rattle.pm_expire.specs.Trace.{Did, ExpirerActed}
 use Rattle.pm_expire.specs.declared.all_calls.Kept.{Kept}
 use Rattle.pm_expire.specs.declared.expirer.ExpireStep.{ExpireStep}
@@ -125,21 +125,30 @@ module _ (laws : CallLaws) (me : Actor) where
 
   -- ---- whatever others do
 
-  step-brings : (old new : Phase) (before after : StoreView) → ExpirerMoved old new before after
-      → Brings Stands (Expires me) OthersAdvance (Knows old) (Knows new) before after
-  step-brings old new before after moved =
-      brings-weaker Stands (Makes me old) (Expires me) OthersAdvance OthersAdvance (Knows old) (Knows old) (Knows new) (Knows new) before after
+  step-brings : (old : Phase) (knows : Files → Past → Type 0) (before after : StoreView) → Moves Stands (Makes me old) (Knows old) knows before after
+      → Brings Stands (Expires me) OthersAdvance (Knows old) knows before after
+  step-brings old knows before after moved =
+      brings-weaker Stands (Makes me old) (Expires me) OthersAdvance OthersAdvance (Knows old) (Knows old) knows knows before after
       (λ f changed p q change. kind-of me old f changed p q change) (λ f changed p q change. change) (λ f p known. known) (λ f p stands known. known)
       (brings-moves Stands (Makes me old) OthersAdvance (Knows old)
       (λ f changed p q stands known others.
       (laws.past others.0 f changed p q stands others.1, laws.known old others.0 f changed p q stands others.1 known))
-      (Knows new) before after
-      (λ f changed p q stands change. kept-stands f changed p q stands (kind-of me old f changed p q change)) (moved me))
+      knows before after
+      (λ f changed p q stands change. kept-stands f changed p q stands (kind-of me old f changed p q change)) moved)
 
   pub brings-more : (first old new : Phase) (start before after : StoreView) → Brings Stands (Expires me) OthersAdvance (Knows first) (Knows old) start before
       → ExpirerMoved old new before after → Brings Stands (Expires me) OthersAdvance (Knows first) (Knows new) start after
   brings-more first old new start before after brought moved =
-      brings-then Stands (Expires me) OthersAdvance (Knows first) (Knows old) (Knows new) start before after brought (step-brings old new before after moved)
+      brings-then Stands (Expires me) OthersAdvance (Knows first) (Knows old) (Knows new) start before after brought
+      (step-brings old (Knows new) before after (moved me))
+
+  -- and of a step that is refused
+  pub brought-refused : (first old : Phase) (refusal : Refusal) (start before after : StoreView)
+      → Brings Stands (Expires me) OthersAdvance (Knows first) (Knows old) start before → ExpirerTold old refusal before after
+      → BringsFrom me first (Err refusal) start after
+  brought-refused first old refusal start before after brought told =
+      brings-then Stands (Expires me) OthersAdvance (Knows first) (Knows old) (IsTold refusal) start before after brought
+      (step-brings old (IsTold refusal) before after (told me))
 
 abbrev pub HasBrought : Phase → Phase → StoreView → StoreView → Type 0
 HasBrought first m start now = (me : Actor) → Brings Stands (Expires me) OthersAdvance (Knows first) (Knows m) start now
@@ -153,12 +162,6 @@ brought-done me begin m first last start after is brought =
     brings-weaker Stands (Expires me) (Expires me) OthersAdvance OthersAdvance (Knows begin) (Knows begin) (Knows m) (KnowsAnswer (Ok (kept_of first last))) start after
     (λ f changed p q change. change) (λ f changed p q change. change) (λ f p known. known)
     (λ f p stands known. subst (λ (m : Phase). Knows m f p) is known) (brought me)
-
-pub brought-refused : (me : Actor) (begin m : Phase) (refusal : Refusal) (start after : StoreView) → HasBrought begin m start after
-    → BringsFrom me begin (Err refusal) start after
-brought-refused me begin m refusal start after brought =
-    brings-weaker Stands (Expires me) (Expires me) OthersAdvance OthersAdvance (Knows begin) (Knows begin) (Knows m) (KnowsAnswer (Err refusal)) start after
-    (λ f changed p q change. change) (λ f changed p q change. change) (λ f p known. known) (λ f p stands known. tt) (brought me)
 
 -- at first the table is known
 knows-first : (a : Asking) (m : Phase) (f : Files) (p : Past) → m ≡ first_phase a → HavePlainNames a.schema → IsTableOf a.schema p.history → Knows m f p

@@ -1,5 +1,6 @@
 -- How far an expirer has come.
-use Rattle.std.proofs.Common.{◌≡◌, ◌⊎◌, inl, inr, ℕ, ◌+◌, ◌<◌, ◌≤◌, Option, None, Some, IsSome, refl, sym, ap, ◌∙◌, subst, arith}
+use Rattle.std.proofs.Common.{◌≡◌, ◌⊎◌, inl, inr, ℕ, ◌+◌, ◌<◌, ◌≤◌, Option, None, Some, IsSome, IfErr, Result, Ok, Err, refl, sym, ap, ◌∙◌, subst, arith}
+use Rattle.pm_values.specs.declared.refusal.Refusal.{Refusal}
 use Rattle.pm_store.specs.declared.answer.Answer.{Answer}
 use Rattle.pm_store.specs.declared.answer.Answer.TheVariants as answers
 use Rattle.pm_store.specs.Store.{StoreView}
@@ -14,6 +15,7 @@ use Rattle.pm_remove.specs.declared.phase.Phase.TheVariants as removers
 use Rattle.pm_remove.specs.Remover as removing
 use Rattle.pm_remove.proofs.Facts as removing_facts
 use Rattle.pm_expire_paths.specs.Dropping.{DroppingView}
+use Rattle.pm_read_schema.specs.Beside.{IsTold}
 use Rattle.pm_read_whole.specs.Whole as whole
 use Rattle.pm_read_whole.specs.declared.phase.Phase as whole_phase
 use Rattle.pm_read_whole.proofs.Facts as whole_facts
@@ -29,7 +31,7 @@ use Rattle.pm_announce.specs.declared.phase.Phase.TheVariants as announcers
 use Rattle.pm_announce.proofs.Facts as announcing_facts
 use Rattle.pm_expire.specs.Expirer.{announce_calls, calls_left, calls_to, most_paths, next_call, reached_at, view_calls, views_left, AfterAdding, AfterAnnounce, AfterRead, AfterRemove, AfterView, Goes, IsExpirer, Reaches}
 use Rattle.pm_expire.specs.Expirer.{announces_on, none_goes, none_goes_then, reads_on, removed_all, removes_on, some_goes, view_read, views_all, views_first, views_next, views_on}
-use Rattle.pm_expire.specs.Meaning.{Beside, Knows, KnowsBeside, Makes, MakesBeside, StandsBeside}
+use Rattle.pm_expire.specs.Meaning.{Beside, ExpirerTold, Knows, KnowsBeside, Makes, MakesBeside, StandsBeside, TellsBeside}
 use Rattle.pm_expire.specs.declared.phase.Phase.{Phase}
 use Rattle.pm_expire.specs.declared.phase.Phase.TheVariants as phases
 use Rattle.pm_expire.specs.declared.phase.Views.{Views}
@@ -139,9 +141,9 @@ has_call phases.Over is left = absurd (let none : 0 < 0 = left in omega (arith, 
 
 -- ---- the actor beside the past
 
-keeps_of : (me : Actor) (old new : Phase) (op : Op) (f : Files) → Keeps StandsBeside (MakesBeside old) (KnowsBeside old) (KnowsBeside new) op f
-    → Keeps Stands (Makes me old) (Knows old) (Knows new) op f
-keeps_of me old new op f keeps p stands known =
+keeps_of : (me : Actor) (old : Phase) (knows : Files → Past → Type 0) (op : Op) (f : Files)
+    → Keeps StandsBeside (MakesBeside old) (KnowsBeside old) (λ f b. knows f b.1) op f → Keeps Stands (Makes me old) (Knows old) knows op f
+keeps_of me old knows op f keeps p stands known =
     let both = keeps (me, p) stands known in
     let after : Files = after_effect op.call op.effect f in (
       λ effect. at (after_effect op.call effect f) (both.0 effect),
@@ -151,17 +153,24 @@ keeps_of me old new op f keeps p stands known =
     at : (after : Files) → ((later : Beside) × MakesBeside old f (me, p) after later) → (later : Past) × Makes me old f p after later
     at after (later, change) = (later.1, change.1)
 
-    led : (after : Files) → Leads (MakesBeside old) (KnowsBeside new) f (me, p) after → Leads (Makes me old) (Knows new) f p after
+    led : (after : Files) → Leads (MakesBeside old) (λ f b. knows f b.1) f (me, p) after → Leads (Makes me old) knows f p after
     led after (later, change, known) = (later.1, change.1, known)
 
 -- what a step does whoever stands beside the past, it does to the past
-pub moves_of : (me : Actor) (old new : Phase) (before after : StoreView) → Moves StandsBeside (MakesBeside old) (KnowsBeside old) (KnowsBeside new) before after
-    → Moves Stands (Makes me old) (Knows old) (Knows new) before after
-moves_of me old new before after (inl (op, own, steps)) = inl (
+pub moves_of : (me : Actor) (old : Phase) (knows : Files → Past → Type 0) (before after : StoreView)
+    → Moves StandsBeside (MakesBeside old) (KnowsBeside old) (λ f b. knows f b.1) before after → Moves Stands (Makes me old) (Knows old) knows before after
+moves_of me old knows before after (inl (op, own, steps)) = inl (
   op,
   own,
-  Steps-weaker op (λ ops. Keeps StandsBeside (MakesBeside old) (KnowsBeside old) (KnowsBeside new) op (files_after ops))
-      (λ ops. Keeps Stands (Makes me old) (Knows old) (Knows new) op (files_after ops)) before after
-      (λ ops keeps. keeps_of me old new op (files_after ops) keeps) steps,
+  Steps-weaker op (λ ops. Keeps StandsBeside (MakesBeside old) (KnowsBeside old) (λ f b. knows f b.1) op (files_after ops))
+      (λ ops. Keeps Stands (Makes me old) (Knows old) knows op (files_after ops)) before after
+      (λ ops keeps. keeps_of me old knows op (files_after ops) keeps) steps,
 )
-moves_of me old new before after (inr (meanwhile, same)) = inr (meanwhile, λ f p stands known. same f (me, p) stands known)
+moves_of me old knows before after (inr (meanwhile, same)) = inr (meanwhile, λ f p stands known. same f (me, p) stands known)
+
+-- and what it tells of that
+pub told_of : {Step : Type 0} (old : Phase) (result : Result Step Refusal) (before after : StoreView)
+    → IfErr result (λ refusal. Moves StandsBeside (MakesBeside old) (KnowsBeside old) (TellsBeside refusal) before after)
+    → IfErr result (λ refusal. ExpirerTold old refusal before after)
+told_of old (Ok step) before after told = tt
+told_of old (Err refusal) before after told = λ me. moves_of me old (IsTold refusal) before after told

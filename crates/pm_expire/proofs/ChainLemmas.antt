@@ -78,7 +78,7 @@ dense_tail x xs rising dense low high one other below =
       | inr later ↦ later
     ]
 
-last_tail : (t v : ℕ × ℤ) (before : List (ℕ × ℤ)) → last_id (t ∷ v ∷ before) ≡ last_id (v ∷ before)
+pub last_tail : (t v : ℕ × ℤ) (before : List (ℕ × ℤ)) → last_id (t ∷ v ∷ before) ≡ last_id (v ∷ before)
 last_tail t v before =
     let size : ℕ = length before in
     let all : suc (suc size) - 1 ≡ suc size = omega arith in

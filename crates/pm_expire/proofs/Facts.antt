@@ -89,8 +89,8 @@ module _ (laws : Laws) (me : Actor) (f : Files) (p : Past) (stands : Stands f p)
   -- a remover's change is one of its kinds
   remove_made : (first last : ℕ) (r : RemovalView) → KnowsRemover first last (removers.Remove r) f p → (after : Files) → removing_meaning.Makes (removers.Remove r) f after
       → Removes me r.next f p after p
-  remove_made first last r (x, end, order, newest, known) after (inl same) = record { advances = same_advances me f after p same; same = refl; files = λ path other. same path }
-  remove_made first last r (x, end, order, newest, known) after (inr (there, puts)) = record {
+  remove_made first last r (x, end, order, oldest, newest, known) after (inl same) = record { advances = same_advances me f after p same; same = refl; files = λ path other. same path }
+  remove_made first last r (x, end, order, oldest, newest, known) after (inr (there, puts)) = record {
     advances = laws.removes x r.next r.rest me f after p stands known there puts;
     same = refl;
     files = puts.others;
@@ -205,9 +205,9 @@ module _ (laws : Laws) (me : Actor) (f : Files) (p : Past) (stands : Stands f p)
   -- the next of what is to be removed
   rest_known : (first last : ℕ) (m : remove_phase.Phase) (answer : Answer) (to : remove_phase.Phase) → removing.Goes m answer to
       → KnowsRemover first last m f p → (after : Files) → removing_meaning.Clears m f after → KnowsRemover first last to after p
-  rest_known first last (removers.Remove r) (answers.Removed answer) to at (x, end, order, newest, known) after puts =
+  rest_known first last (removers.Remove r) (answers.Removed answer) to at (x, end, order, oldest, newest, known) after puts =
       subst (λ (m : remove_phase.Phase). KnowsRemover first last m after p) (sym at)
-      (remover_known x first last r.rest after p end order newest (laws.leaves x r.next r.rest f after p stands known puts))
+      (remover_known x first last r.rest after p end order oldest newest (laws.leaves x r.next r.rest f after p stands known puts))
   rest_known first last m answer to on known after puts = absurd on
 
   announced_stands : (m : announce_phase.Phase) (after : Files) (later : Past) → announcing_meaning.Makes me m f p after later → Stands after later
@@ -293,8 +293,14 @@ knows_still laws (phases.View v m) other f after p q stands advances known = rec
   views = views_still v other f after p q advances known.views;
   reader = laws.viewed m other f after p q stands advances known.reader;
 }
-knows_still laws (phases.Remove first last (removers.Remove r)) other f after p q stands advances (x, end, order, newest, known) =
-    (x, end, order, known-still other f after p q last advances newest, laws.removals x (r.next ∷ r.rest) other f after p q stands advances known)
+knows_still laws (phases.Remove first last (removers.Remove r)) other f after p q stands advances (x, end, order, oldest, newest, known) = (
+  x,
+  end,
+  order,
+  known-still other f after p q first advances oldest,
+  known-still other f after p q last advances newest,
+  laws.removals x (r.next ∷ r.rest) other f after p q stands advances known,
+)
 knows_still laws (phases.Remove first last removers.Removed) other f after p q stands advances known =
     done_still laws.between first last other f after p q stands advances known
 knows_still laws (phases.Remove first last removers.Over) other f after p q stands advances known = tt

@@ -202,9 +202,9 @@ all_gone f p x snapshots none (from_id id count low sum gone is) =
     let end : id ≡ x.end = omega (arith, sum, zeros) in
     subst (HaveGone f x.schema) end gone
 
-pub all_removed : (x : Expiry) (first last : ℕ) (f : Files) (p : Past) → x.end ≡ first → first ≤ last → IsKnown p last → KnowsRemovals x [] f p
-    → KnowsDone first last f p
-all_removed x first last f p end order newest known =
+pub all_removed : (x : Expiry) (first last : ℕ) (f : Files) (p : Past) → x.end ≡ first → first ≤ last → IsKnown p first → IsKnown p last
+    → KnowsRemovals x [] f p → KnowsDone first last f p
+all_removed x first last f p end order oldest newest known =
     let left = known.left in
     let gone = all_gone f p x left.snapshots (no_paths left.snapshots (left.dropped ++ floor_paths left.floors) left.is) left.first in
     record {
@@ -212,14 +212,15 @@ all_removed x first last f p end order newest known =
       table = known.table;
       gone = subst (HaveGoneBetween f p x.schema) end
           (record { within = known.read.announced.within; gone = λ below low high. gone below high });
+      kept = λ some. oldest;
       newest = λ some. newest;
       order = order;
     }
 
-pub remover_known : (x : Expiry) (first last : ℕ) (paths : List (List ℕ)) (f : Files) (p : Past) → x.end ≡ first → first ≤ last → IsKnown p last
-    → KnowsRemovals x paths f p → KnowsRemover first last (remove_next paths) f p
-remover_known x first last [] f p end order newest known = all_removed x first last f p end order newest known
-remover_known x first last (path ∷ paths) f p end order newest known = (x, end, order, newest, known)
+pub remover_known : (x : Expiry) (first last : ℕ) (paths : List (List ℕ)) (f : Files) (p : Past) → x.end ≡ first → first ≤ last → IsKnown p first
+    → IsKnown p last → KnowsRemovals x paths f p → KnowsRemover first last (remove_next paths) f p
+remover_known x first last [] f p end order oldest newest known = all_removed x first last f p end order oldest newest known
+remover_known x first last (path ∷ paths) f p end order oldest newest known = (x, end, order, oldest, newest, known)
 
 pub removals_known : RemovalsBegin → (a : Announced) (d : DroppingView) (paths : List (List ℕ)) (f : Files) (p : Past) → a.found.first < a.end
     → a.end ≤ a.found.last → KnowsEnd a.found a.end f p → KnowsViews (views_of a d (a.end + 1)) p → AreRemovals a d paths
@@ -230,7 +231,8 @@ removals_known law a d paths f p less order end views are =
     law (expiry_of a) are.dropped are.floors f p end.of.found.table end.of.plain end.announced (end.left (λ e. omega (arith, e, less))) some less
     (end.of.found.gone some) (all_dropped a d p views less are.dropped are.are_dropped)
     (all_floors a.found.floors.items a.found.end are.floors are.are_floors) in
-    remover_known (expiry_of a) a.end a.found.last paths f p refl order (end.of.found.last (omega (arith, less, order))) (subst (λ (xs : List (List ℕ)). KnowsRemovals (expiry_of a) xs f p) (sym are.is) begun)
+    remover_known (expiry_of a) a.end a.found.last paths f p refl order (end_known a d p views less) (end.of.found.last (omega (arith, less, order)))
+    (subst (λ (xs : List (List ℕ)). KnowsRemovals (expiry_of a) xs f p) (sym are.is) begun)
 
 -- ---- where no snapshot is to go
 
@@ -243,6 +245,7 @@ found_done x end f p at order known = record {
   schema = x.schema;
   table = known.table;
   gone = subst (HaveGoneBetween f p x.schema) (sym at) (none_between f p x.schema x.first known.gone);
+  kept = λ some. subst (IsKnown p) (sym at) (known.kept some);
   newest = known.last;
   order = order;
 }
@@ -284,6 +287,7 @@ done_still law first last other f after p q stands advances known = record {
   schema = known.schema;
   table = table_still other f after p q known.schema advances known.table;
   gone = law other f after p q known.schema first stands advances known.table known.gone;
+  kept = λ some. known-still other f after p q first advances (known.kept some);
   newest = λ some. known-still other f after p q last advances (known.newest some);
   order = known.order;
 }

@@ -5,6 +5,7 @@ mod BesideLemmas
 mod CallLemmas
 mod CauseLemmas
 mod ChainLemmas
+pub mod DoneLemmas
 pub mod Facts
 mod FoundLemmas
 mod GivenBackLemmas
@@ -12,9 +13,16 @@ mod ImageLemmas
 mod KeptLemmas
 mod KnowsLemmas
 mod OneEndLemmas
+mod OneLemmas
+mod OneLogLemmas
+mod OneReadLemmas
+mod OneViewLemmas
+mod OnlyLemmas
+mod PartLemmas
 mod PhaseLemmas
 mod ResumeLemmas
 mod SparesLemmas
+mod ToldLemmas
 mod TraceLemmas
 mod ViewCauseLemmas
 mod ViewStillLemmas

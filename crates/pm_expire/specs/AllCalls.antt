@@ -128,8 +128,8 @@ pub record KeepsAll (a : Asking) (f : Files) (h : History) (first last : ℕ) (b
   pub table : IsTableOf a.schema h
   pub becomes : Becomes a (count_of h) f f first last
 
--- Some of the files' snapshots go, and at this path: the file was taken with them; or it is the floor of their end, which
--- wasn't there.
+-- Some of the files' snapshots go, and at this path: the file was taken with them; or it is the floor of their end,
+-- which wasn't there.
 abbrev pub ChangesAt : Asking → Files → Files → List ℕ → Type 0
 ChangesAt a f g path = (first end : ℕ) × HasToGo a f first end
     × (((map.get g path ≡ None) × IsGivenBack a.schema f end path)
@@ -157,8 +157,8 @@ pub record ExpiresFiles (a : Asking) (f : Files) (h : History) (before after : S
   pub leaves : LeavesFiles (Leaves a (count_of h) f result) after
   pub images : Extends (IsImageOf a f) before.ops after.ops
 
--- whoever reads a snapshot that a listing shows, from the end on, finds the same bytes; and each consumer's file is as it
--- was
+-- whoever reads a snapshot that a listing shows, from the end on, finds the same bytes; and each consumer's file is as
+-- it was
 pub record SparesFrom (s : TableSchema) (end : ℕ) (f g : Files) : Type 0 where
   pub needs : (id : ℕ) (path : List ℕ) → 1 ≤ id → id ≤ greatest → end ≤ id → HasSnapshotAt f s id → Needs f s id path
       → map.get g path ≡ map.get f path

@@ -12,7 +12,7 @@ use Rattle.pm_model_history.specs.History.{IsTableOf}
 use Rattle.pm_model_folder.specs.Changes.{Actor}
 use Rattle.pm_model_folder.specs.Ledger.{Past, Stands}
 use Rattle.pm_create.specs.Making.{LeavesFiles}
-use Rattle.pm_read_schema.specs.Beside.{OthersAdvance}
+use Rattle.pm_read_schema.specs.Beside.{IsTold, OthersAdvance}
 use Rattle.pm_beside.specs.Bringing.{Brings}
 use Rattle.pm_snapshots.specs.AllCalls.{GoesOnFrom}
 use Rattle.pm_read_expiry.specs.declared.asking.Asking.{Asking}
@@ -32,10 +32,10 @@ pub data Expires (me : Actor) (f : Files) (p : Past) (after : Files) (later : Pa
   announces : (x : Found) → Announces me x f p after later → Expires me f p after later
   removes : (path : List ℕ) → Removes me path f p after later → Expires me f p after later
 
--- what is known then of the answer: of a refusal nothing
+-- what is known then of the answer, and of a refusal at the call that shows it
 abbrev pub KnowsAnswer : Result Kept Refusal → Files → Past → Type 0
 KnowsAnswer (Ok kept) f p = KnowsDone kept.first kept.last f p
-KnowsAnswer (Err refusal) f p = Unit {0}
+KnowsAnswer (Err refusal) f p = IsTold refusal f p
 
 -- To each past that has the table its calls bring such changes alone, and what is known of the answer, whatever others
 -- do.

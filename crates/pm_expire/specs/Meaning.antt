@@ -1,6 +1,7 @@
 -- What an expirer knows of the table, whatever others do, and what its steps mean for the files.
 use Rattle.std.specs.Prelude.{◌≡◌, ◌≢◌, ◌↔◌, ℕ, ◌+◌, ◌<◌, ◌≤◌, List, ◌∷◌, Contains}
 use Rattle.std.specs.FinMap as map
+use Rattle.pm_values.specs.declared.refusal.Refusal.{Refusal}
 use Rattle.pm_store.specs.Files.{Files}
 use Rattle.pm_store.specs.Store.{StoreView}
 use Rattle.pm_machine.specs.Moves.{IsKept, Moves}
@@ -14,6 +15,7 @@ use Rattle.pm_schema.specs.declared.schema.TableSchema.{TableSchema}
 use Rattle.pm_remove.specs.declared.phase.Phase as remove_phase
 use Rattle.pm_remove.specs.declared.phase.Phase.TheVariants as removers
 use Rattle.pm_expire_paths.specs.Dropping.{IsSeen}
+use Rattle.pm_read_schema.specs.Beside.{IsTold}
 use Rattle.pm_read_whole.specs.Meaning as whole
 use Rattle.pm_read_whole.specs.declared.phase.Phase as whole_phase
 use Rattle.pm_read_expiry.specs.Meaning as reading
@@ -70,18 +72,20 @@ pub record KnowsView (v : Views) (m : whole_phase.Phase) (f : Files) (p : Past) 
   pub reader : whole.Knows m f p
 
 -- What is known once it is done, by the two numbers that it answers: no snapshot of the table is there below the first
--- but the origin, and the last was committed, whether or not it has gone since. Both are 0 where there was none.
+-- but the origin, and both were committed, whether or not they have gone since. Both are 0 where there was none.
 pub record KnowsDone (first last : ℕ) (f : Files) (p : Past) : Type 0 where
   pub schema : TableSchema
   pub table : IsTableOf schema p.history
   pub gone : HaveGoneBetween f p schema first
+  pub kept : 1 ≤ last → IsKnown p first
   pub newest : 1 ≤ last → IsKnown p last
   pub order : first ≤ last
 
 -- of what is to be removed each remove may be made, and the first that is kept is the end of that expiry
 abbrev pub KnowsRemover : ℕ → ℕ → remove_phase.Phase → Files → Past → Type 0
 KnowsRemover first last (removers.Remove r) f p =
-    (x : Expiry) × (x.end ≡ first) × (first ≤ last) × IsKnown p last × KnowsRemovals x (r.next ∷ r.rest) f p
+    (x : Expiry) × (x.end ≡ first) × (first ≤ last) × IsKnown p first × IsKnown p last
+    × KnowsRemovals x (r.next ∷ r.rest) f p
 KnowsRemover first last removers.Removed f p = KnowsDone first last f p
 KnowsRemover first last removers.Over f p = Unit {0}
 
@@ -98,6 +102,11 @@ Knows phases.Over f p = Unit {0}
 abbrev pub ExpirerMoved : Phase → Phase → StoreView → StoreView → Type 0
 ExpirerMoved old new before after = (me : Actor) → Moves Stands (Makes me old) (Knows old) (Knows new) before after
 
+-- And a step that is refused tells what is so after it.
+abbrev pub ExpirerTold : Phase → Refusal → StoreView → StoreView → Type 0
+ExpirerTold old refusal before after =
+    (me : Actor) → Moves Stands (Makes me old) (Knows old) (IsTold refusal) before after
+
 -- ---- the actor beside the past
 
 -- Who expires stands beside the pasts, since phases don't hold it.
@@ -112,3 +121,6 @@ MakesBeside phase f b after later = (later.0 ≡ b.0) × Makes b.0 phase f b.1 a
 
 abbrev pub KnowsBeside : Phase → Files → Beside → Type 0
 KnowsBeside phase f b = Knows phase f b.1
+
+abbrev pub TellsBeside : Refusal → Files → Beside → Type 0
+TellsBeside refusal f b = IsTold refusal f b.1

@@ -1,16 +1,16 @@
 //! The expirer.
 
-ghost use Rattle.std.specs.Prelude.{◌≡◌, ◌<◌, IfOk, OnErr, OnOk};
+ghost use Rattle.std.specs.Prelude.{◌≡◌, ◌<◌, IfErr, IfOk, OnErr, OnOk};
 ghost use Rattle.pm_store.specs.Store.{IsLater};
 ghost use Rattle.pm_read_expiry.specs.Found.{IsAsking};
 ghost use Rattle.pm_read_expiry.specs.declared.phase.Phase.TheVariants as readers;
 ghost use Rattle.pm_snapshots.specs.declared.phase.Phase.TheVariants as listers;
 ghost use Rattle.pm_expire.specs.Expirer.{calls_left, Reaches};
-ghost use Rattle.pm_expire.specs.Meaning.{ExpirerMoved};
+ghost use Rattle.pm_expire.specs.Meaning.{ExpirerMoved, ExpirerTold};
 ghost use Rattle.pm_expire.specs.Trace.{ExpirerActed};
 ghost use Rattle.pm_expire.specs.declared.phase.Phase.TheVariants as phases;
 
-use crate::laws::{recounts_law, sound_law};
+use crate::laws::{causes_law, recounts_law, sound_law};
 use crate::phase::Phase;
 use pm_machine::{Running, make_step};
 use pm_read_expiry::{Asking, expiry_reader};
@@ -48,12 +48,14 @@ pub fn step_expirer<F: FileStore>(
 ) -> Result<ExpireStep, Refusal>
     requires { 0 < calls_left expirer.old }
     ensures moves { ExpirerMoved expirer.old expirer.new (F.seen store.old) (F.seen store.new) }
+    ensures tells { IfErr result (λ refusal. ExpirerTold expirer.old refusal (F.seen store.old) (F.seen store.new)) }
     ensures acts { ExpirerActed expirer.old expirer.new (F.seen store.old) (F.seen store.new) result }
     ensures reaches { IfOk result (λ step. Reaches step expirer.new) }
     ensures fewer { OnOk result (calls_left expirer.new < calls_left expirer.old) }
     ensures over { OnErr result (expirer.new ≡ phases.Over) }
     ensures later { IsLater (F.seen store.old) (F.seen store.new) }
 {
+    causes_law();
     recounts_law();
     sound_law();
     make_step(alloc, expirer, store)

@@ -1,15 +1,20 @@
 //! Laws of expirers. Each holds with no call but of the laws of crates below.
 
-ghost use Rattle.std.specs.Prelude.{◌≡◌, ◌≢◌, ◌⊎◌, ℕ, ◌<◌, ◌≤◌, ◌≤ℤ◌, ℤ, List, Option, Some, IsSome, Result, Err};
+ghost use Rattle.std.specs.Prelude.{◌≡◌, ◌≢◌, ◌⊎◌, ℕ, ◌<◌, ◌≤◌, ◌≤ℤ◌, ℤ, List, [], ◌∷◌, ◌++◌, Option, Some, IsSome};
+ghost use Rattle.std.specs.Prelude.{Result, Err};
 ghost use Rattle.std.specs.FinMap as finite;
 ghost use Rattle.pm_model_folder.specs.Paths.{floor_path};
 ghost use Rattle.pm_machine.specs.Moves.{Sound};
 ghost use Rattle.pm_machine.specs.Running.{Refuses, Stops};
-ghost use Rattle.pm_machine.specs.Trace.{Event, Recounts, Traces};
+ghost use Rattle.pm_machine.specs.Step.{path_of};
+ghost use Rattle.pm_machine.specs.Trace.{Event, faulted, Recounts, Traces};
 ghost use Rattle.pm_model_folder.specs.Changes.{Actor, HavePlainNames};
 ghost use Rattle.pm_model_history.specs.History.{Entry, History, table};
 ghost use Rattle.pm_model_folder.specs.Folder.{Folder};
 ghost use Rattle.pm_model_folder.specs.Ledger.{Advances, Past, Stands};
+ghost use Rattle.pm_model_folder.specs.Meaning.{ConsumerAt};
+ghost use Rattle.pm_model_consumers.specs.Claims.{Counts};
+ghost use Rattle.pm_snapshot.specs.declared.consumer.Consumer.{Consumer};
 ghost use Rattle.pm_schema.specs.declared.schema.TableSchema.{TableSchema};
 ghost use Rattle.pm_consumer_files.specs.declared.lines.NamedConsumer.{NamedConsumer};
 ghost use Rattle.pm_consumers.specs.AllCalls.{AreConsumersOf};
@@ -19,16 +24,19 @@ ghost use Rattle.pm_snapshots.specs.declared.line.SnapshotLine.{SnapshotLine};
 ghost use Rattle.pm_read_expiry.specs.declared.asking.Found.{Found};
 ghost use Rattle.pm_read_expiry.specs.Trace.{HasFound};
 ghost use Rattle.pm_read_expiry.specs.Times.{times_of, IsChain, IsLeastNext};
+ghost use Rattle.pm_store.specs.Answers.{Answers};
+ghost use Rattle.pm_store.specs.declared.answer.Answer.{Answer};
 ghost use Rattle.pm_store.specs.declared.call.Call.{Call};
 ghost use Rattle.pm_store.specs.Files.{Files};
 ghost use Rattle.pm_store.specs.Images.{MayLeave};
 ghost use Rattle.pm_store.specs.Store.{StoreView, IsAlone};
 ghost use Rattle.pm_read_schema.specs.AllCalls.{HasFiles};
+ghost use Rattle.pm_read_schema.specs.Beside.{IsTold};
 ghost use Rattle.pm_read_expiry.specs.declared.asking.Asking.{Asking};
 ghost use Rattle.pm_expire.specs.AllCalls.{announced, AreRemovalsOf, ChangesAt, DidExpire, ExpiresFiles, FindsAlone};
 ghost use Rattle.pm_expire.specs.AllCalls.{HasGivenBack, HasToGo, IsEndIn, IsFirst, IsImageOf, KeepsAll, SparesFrom};
-ghost use Rattle.pm_expire.specs.Expirer.{next_call, Goes, Shown};
-ghost use Rattle.pm_expire.specs.Meaning.{Knows, KnowsBeside, Makes, MakesBeside, StandsBeside};
+ghost use Rattle.pm_expire.specs.Expirer.{next_call, Goes, IsExpirer, Shown};
+ghost use Rattle.pm_expire.specs.Meaning.{Knows, KnowsBeside, KnowsDone, Makes, MakesBeside, StandsBeside};
 ghost use Rattle.pm_expire.specs.Trace.{Did, Shows};
 ghost use Rattle.pm_expire_end.specs.Expiry.{KeepsMore};
 ghost use Rattle.pm_remove.specs.Meaning.{HasLost, IsWithout};
@@ -45,9 +53,10 @@ use pm_consumers::listed_law;
 use pm_manifest::{ManifestMeta, joined_law};
 use pm_model_contents::one_contents_law;
 use pm_model_expiry::{announces_law, reads_law, removes_law};
-use pm_model_folder::past_law;
+use pm_model_folder::{consumers_law, past_law};
 use pm_read_whole::paths_law;
 use pm_record::one_reading_law;
+use pm_snapshot::consumer_law;
 
 /// Whoever expires a table: each effect of its next call is one of its changes, and what it knows holds after each
 /// answer, refusal and fault.
@@ -85,12 +94,32 @@ pub fn known_law()
     pm_read_whole::known_law();
 }
 
+/// Whatever others do between its calls, a folder that stands shows an expirer no refusal but that memory ran out, or
+/// that a snapshot which it reads has gone. So E10 and E11 never come of such a folder.
+pub fn causes_law()
+    ensures { (m : Phase) (call : Call) (answer : Answer) (refusal : Refusal) (f : Files) (p : Past) → Stands f p
+        → IsExpirer m → Knows m f p → next_call m ≡ Some call → Answers call answer f → Shown m answer refusal
+        → IsTold refusal f p }
+{
+    pm_read_whole::causes_law();
+}
+
 /// Whatever a crash leaves of its next call is one of its changes.
 pub fn images_law()
     ensures { (me : Actor) (m : Phase) (call : Call) (f image : Files) (p : Past) → next_call m ≡ Some call
         → Stands f p → Knows m f p → MayLeave call f image → (later : Past) × Makes me m f p image later }
 {
     sound_law();
+}
+
+/// Once it is done, the first snapshot that it keeps is at most the number of each consumer that counts, whoever else
+/// acted meanwhile: of a settled one, and of one whose follower has listed the floors.
+pub fn done_law()
+    ensures { (first last : ℕ) (f : Files) (p : Past) (name : List ℕ) (c : Consumer) → Stands f p
+        → KnowsDone first last f p → Counts (p.claims name) → ConsumerAt f name c → first ≤ c.next }
+{
+    consumer_law();
+    consumers_law();
 }
 
 /// Of a folder that stands no snapshot lacks between two others: all that are there count for the end of an expiry.
@@ -196,7 +225,7 @@ pub fn all_calls_law()
 
 /// Where nobody else acts a refusal comes of memory or of a fault that was counted alone: no file is damaged, none was
 /// lost, and no snapshot has gone that was listed.
-pub fn causes_law()
+pub fn alone_causes_law()
     ensures { (a : Asking) (refusal : Refusal) (own : List Event) (before after : StoreView) (f : Files) (h : History)
         → IsAsking a → HavePlainNames a.schema → DidExpire a (Err refusal) own → Traces own before after
         → IsAlone before after → HasFiles f before → Folder f h → IsCaused before after refusal }
@@ -209,4 +238,19 @@ pub fn causes_law()
     pm_expire_end::end_law();
     pm_model_folder::kept_law();
     pm_remove::alone_law();
+}
+
+/// The same calls of an expiry show one answer at most, but that memory may have run out: so each other answer comes
+/// exactly where the calls are those that it names; and after a call that failed it is that one.
+pub fn one_answer_law()
+    ensures one { (a : Asking) (one other : Result Kept Refusal) (own : List Event) → DidExpire a one own
+        → DidExpire a other own
+        → (one ≡ other) ⊎ ((one ≡ Err refusals.Memory) ⊎ (other ≡ Err refusals.Memory)) }
+    ensures failed { (a : Asking) (earlier : List Event) (call : Call) (result : Result Kept Refusal)
+        → DidExpire a result (earlier ++ faulted call ∷ [])
+        → (result ≡ Err refusals.Memory) ⊎ (result ≡ Err (refusals.StoreFault (path_of call))) }
+{
+    joined_law();
+    one_reading_law::<ManifestMeta>();
+    one_reading_law::<pm_manifest::Entry>();
 }

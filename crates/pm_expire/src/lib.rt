@@ -25,8 +25,8 @@ mod views;
 pub use all_calls::{Kept, expire_table};
 pub use expirer::{ExpireStep, Expirer, expirer_of, step_expirer};
 pub use laws::{
-    again_law, all_calls_law, announced_law, causes_law, chain_law, found_law, given_back_law,
-    image_law, image_spares_law, images_law, kept_law, known_law, one_end_law, recounts_law,
-    resumes_law, sound_law, spares_law,
+    again_law, all_calls_law, alone_causes_law, announced_law, causes_law, chain_law, done_law,
+    found_law, given_back_law, image_law, image_spares_law, images_law, kept_law, known_law,
+    one_answer_law, one_end_law, recounts_law, resumes_law, sound_law, spares_law,
 };
 pub use phase::{Phase, Views};

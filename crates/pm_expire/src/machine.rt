@@ -57,7 +57,7 @@ impl PhaseMeaning for Phase {
     ghost use Rattle.pm_read_expiry.specs.declared.asking.Asking as asked;
     ghost use Rattle.pm_expire.specs.Expirer.{calls_left, reached_at, Reaches};
     ghost use Rattle.pm_expire.specs.Meaning as meaning;
-    ghost use Rattle.pm_expire.specs.Meaning.{KnowsBeside, MakesBeside, StandsBeside};
+    ghost use Rattle.pm_expire.specs.Meaning.{KnowsBeside, MakesBeside, StandsBeside, TellsBeside};
     ghost use Rattle.pm_expire.specs.Trace.{Did, Shows};
 
     type Step = ExpireStep;
@@ -69,6 +69,8 @@ impl PhaseMeaning for Phase {
     ghost Change = { MakesBeside };
 
     ghost knows = { KnowsBeside };
+
+    ghost tells = { TellsBeside };
 
     ghost Asked = { asked.Asking };
 

@@ -196,6 +196,10 @@ adds kept gone paths ordered all same has either = record {
       | inr new ↦ inr ((same path).1 new)
     ],
   );
+  new = λ path held. elim ((has path).0 held) as (λ _. Contains gone path ⊎ (Contains paths path → ⊥)) [
+    | inl old ↦ inl old
+    | inr lacks ↦ inr (λ among. lacks.1 ((same path).1 among))
+  ];
 }
 
 pub dropped : (kept gone all ordered : List (List ℕ)) → IsStrictlySortedBy (slice_cmp nat_cmp) ordered

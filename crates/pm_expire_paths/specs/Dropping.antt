@@ -16,10 +16,12 @@ dropping_of kept gone = record { kept = kept; gone = gone }
 abbrev pub IsSeen : DroppingView → List ℕ → Type 0
 IsSeen d path = Contains d.gone path ⊎ Contains d.kept path
 
--- one view more named these paths: it is the last
+-- One view more named these paths: it is the last. Of what the one before it named only that is held which this one
+-- doesn't.
 pub record Adds (before : DroppingView) (paths : List (List ℕ)) (after : DroppingView) : Type 0 where
   pub kept : (path : List ℕ) → Contains after.kept path ↔ Contains paths path
   pub seen : (path : List ℕ) → IsSeen after path ↔ (IsSeen before path ⊎ Contains paths path)
+  pub new : (path : List ℕ) → Contains after.gone path → Contains before.gone path ⊎ (Contains paths path → ⊥)
 
 -- the paths that some view named and the last one doesn't, rising by bytes
 pub record AreDropped (d : DroppingView) (paths : List (List ℕ)) : Type 0 where

@@ -9,19 +9,24 @@ use Rattle.pm_store.specs.declared.answer.Answer.{Answer}
 use Rattle.pm_store.specs.declared.answer.Answer.TheVariants as answers
 use Rattle.pm_store.specs.declared.call.Call.{Call}
 use Rattle.pm_store.specs.declared.call.Call.TheVariants as calls
+use Rattle.pm_machine.specs.Moves.{IsKept, Truthful}
+use Rattle.pm_machine.specs.Running.{Refuses}
+use Rattle.pm_machine.proofs.PhaseFacts.{truthful_of_spared}
 use Rattle.pm_schema.specs.declared.schema.TableSchema.{TableSchema}
 use Rattle.pm_model_folder.specs.Ledger.{Past, Stands}
 use Rattle.pm_model_folder.specs.Meaning.{HasSnapshotAt}
 use Rattle.pm_model_folder.specs.Paths.{snapshot_path}
 use Rattle.pm_model_folder.proofs.Facts.{some-none}
 use Rattle.pm_read_table.specs.Meaning.{MayRefuse}
+use Rattle.pm_read_table.proofs.CauseLemmas.{may_tell}
 use Rattle.pm_group_files.specs.Chosen.{Chosen}
 use Rattle.pm_group_files.specs.Collected.{Collected, RefusesJob, nothing_of, with_groups}
-use Rattle.pm_group_files.specs.Meaning.{HasTaken, Knows}
+use Rattle.pm_group_files.specs.Meaning.{HasTaken, IsToldOf, Knows, KnowsChosen, StandsFor}
 use Rattle.pm_group_files.specs.Reader.{next_call, Shown}
 use Rattle.pm_group_files.specs.declared.job.Job.{Job}
 use Rattle.pm_group_files.specs.declared.phase.Phase.{Phase}
 use Rattle.pm_group_files.specs.declared.phase.Phase.TheVariants as phases
+use Rattle.pm_group_files.proofs.Facts.{spares}
 use Rattle.pm_group_files.proofs.NextLemmas.{next-refused}
 use Rattle.pm_group_files.proofs.ReadLemmas.{all-runs, next-stood}
 use Rattle.pm_group_files.proofs.TakenLemmas.{RowLaws}
@@ -55,3 +60,10 @@ causes laws a (phases.Again id path) call (answers.Found (Some bytes)) refusal f
     let some : Some bytes ≡ map.get f (snapshot_path id) = told-of call (calls.Read (snapshot_path id)) (answers.Found (Some bytes)) f at told in
     absurd (let clash : Some bytes ≡ None = some ∙ gone.absent in cc)
 causes laws a m call answer refusal f p stands known at told shown = absurd shown
+
+-- what a refusal tells of the past, whatever was asked
+pub truthful : RowLaws → Truthful next_call (λ m. Unit {0}) (Refuses Shown phases.Over) StandsFor (λ m. IsKept) KnowsChosen IsToldOf
+truthful laws = truthful_of_spared next_call (λ m. Unit {0}) Shown phases.Over StandsFor KnowsChosen IsToldOf spares
+    (λ m call answer refusal f h held stands known is told shown.
+    may_tell refusal f h.past (causes laws h.chosen m call answer refusal f h.past stands known is told shown))
+    (λ f h. tt) (λ path f h. tt)

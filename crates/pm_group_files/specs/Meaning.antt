@@ -4,6 +4,7 @@ use Rattle.std.specs.FinMap as paths
 use Rattle.std.specs.BTreeMap.{IsOrdered}
 use Rattle.std.specs.List.{AllByRecursion, AllZip}
 use Rattle.pm_values.specs.GroupOrder.{group_cmp}
+use Rattle.pm_values.specs.declared.refusal.Refusal.{Refusal}
 use Rattle.pm_store.specs.Files.{Files}
 use Rattle.pm_values.specs.declared.file_meta.FileMeta.{FileMeta}
 use Rattle.pm_values.specs.declared.group.Group.{Group}
@@ -16,6 +17,7 @@ use Rattle.pm_runs.specs.Stand.{StoredRun}
 use Rattle.pm_model_folder.specs.Commits.{Needs}
 use Rattle.pm_model_folder.specs.Ledger.{IsKnown, Past, Stands}
 use Rattle.pm_model_folder.specs.Stored.{HasRun}
+use Rattle.pm_read_schema.specs.Beside.{IsTold}
 use Rattle.pm_read_table.specs.Meaning.{HasGone, IsViewIn}
 use Rattle.pm_read_table.specs.declared.view.View.{View}
 use Rattle.pm_group_files.specs.Chosen.{Chosen}
@@ -103,3 +105,7 @@ StandsFor f h = Stands f h.past
 
 abbrev pub KnowsChosen : Phase → Files → PastOf → Type 0
 KnowsChosen m f h = Knows h.chosen m f h.past
+
+-- what a refusal tells, of the past alone
+abbrev pub IsToldOf : Refusal → Files → PastOf → Type 0
+IsToldOf refusal f h = IsTold refusal f h.past

@@ -2,7 +2,7 @@
 
 ghost use Rattle.pm_group_files.specs.Chosen as chosen;
 ghost use Rattle.pm_group_files.specs.Meaning as meaning;
-ghost use Rattle.pm_group_files.specs.Meaning.{KnowsChosen, StandsFor};
+ghost use Rattle.pm_group_files.specs.Meaning.{IsToldOf, KnowsChosen, StandsFor};
 ghost use Rattle.pm_group_files.specs.Reader.{calls_left, next_call, Goes, IsReady, Shown};
 ghost use Rattle.pm_group_files.specs.Trace.{Did, Shows};
 ghost use Rattle.pm_group_files.specs.declared.phase.Phase.TheVariants as phases;
@@ -57,6 +57,8 @@ impl ReaderPhase for Phase {
     ghost Folder = { StandsFor };
 
     ghost knows = { KnowsChosen };
+
+    ghost tells = { IsToldOf };
 
     ghost Asked = { chosen.Chosen };
 

@@ -13,6 +13,7 @@ use crate::job::Job;
 use crate::phase::Phase;
 use crate::reading::Reading;
 use pm_machine::{LawfulPhase, Running};
+use pm_run::{one_list_law, order_law};
 use pm_scan_rows::ReadGroup;
 use pm_schema::TableSchema;
 use std::alloc::Global;
@@ -23,7 +24,11 @@ use std::collections::VecDeque;
 pub type GroupReader = Running<Phase>;
 
 impl LawfulPhase for Phase {
-    fn laws() {}
+    fn laws() {
+        one_list_law();
+        order_law();
+        pm_run::reading_law();
+    }
 }
 
 /// The reader of these files of the table with this schema, as its snapshot with the id has them.

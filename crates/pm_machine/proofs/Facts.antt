@@ -2,6 +2,7 @@
 use Rattle.std.proofs.Common.{◌≡◌, inl, inr, List, [], ◌∷◌, ◌++◌, Option, None, Some, IsSome, IsSomeAnd, Result, OnOk, IfErr, refl, sym, subst, arith, append_assoc, append-nil}
 use Rattle.pm_base.specs.Faults.{Rose}
 use Rattle.pm_values.specs.declared.refusal.Refusal.{Refusal}
+use Rattle.pm_values.specs.declared.refusal.Refusal.TheVariants as refusals
 use Rattle.pm_store.specs.declared.answer.Answer.{Answer}
 use Rattle.pm_store.specs.declared.call.Call.{Call}
 use Rattle.pm_store.specs.declared.call.Effect.{Effect}
@@ -12,8 +13,8 @@ use Rattle.pm_store.specs.Images.{MayLeave}
 use Rattle.pm_store.specs.Store.{StoreView, IsAlone, IsLater, Meanwhile, own_op, whole}
 use Rattle.pm_store.proofs.FileLaws.{MayLeave-after_effect, effect_left, files_after-push}
 use Rattle.pm_store.proofs.StepLaws.{IsLater-refl, IsLater-trans, Meanwhile-exact, Meanwhile-refl, Meanwhile-trans, Steps-after, Steps-exact, Steps-weaker}
-use Rattle.pm_machine.specs.Moves.{Changes, Keeps, Lasts, Moves, Sound, Stands}
-use Rattle.pm_machine.specs.Step.{Stepped, Rested, Went, Refused, Stopped, Failed}
+use Rattle.pm_machine.specs.Moves.{Changes, Keeps, Lasts, Moves, Sound, Stands, Truthful}
+use Rattle.pm_machine.specs.Step.{path_of, Stepped, Rested, Went, Refused, Stopped, Failed}
 use Rattle.pm_machine.specs.Trace.{Event, Ended, Acts, Traces, HasTrace, Recounts, answered, faulted}
 
 -- a store that is as it was
@@ -50,6 +51,36 @@ moved {H = H} {Folder = Folder} {Change = Change} {knows = knows} {old = old} {n
     let keeps : (ops : List Op) → MayHave call effect (files_after ops) → Keeps Folder (Change old) (knows old) (knows new) op (files_after ops) =
     λ ops may h folder known.
     ((rw is at (sound.changes old (files_after ops) h folder known)), (rw is at (sound.failed old new effect (files_after ops) h stop folder known)) may) in
+    inl (op, refl, Steps-weaker op _ _ before after keeps came.0.1)
+
+-- a step that is refused tells this
+pub told : {M H : Type 0} {call_of : M → Option Call} {goes : M → Answer → M → Type 0} {holds : M → Type 0}
+    {refuses : M → Answer → Refusal → M → Type 0} {stops : M → M → Type 0} {Folder : Files → H → Type 0}
+    {Change : M → Files → H → Files → H → Type 0} {knows : M → Files → H → Type 0} {tells : Refusal → Files → H → Type 0} {old new : M}
+    {before after : StoreView} {result : Result (Unit {0}) Refusal} → Sound call_of goes refuses stops Folder Change knows →
+    Truthful call_of holds refuses Folder Change knows tells → holds old → Stepped call_of goes refuses stops old new before after result →
+    IfErr result (λ refusal. Moves Folder (Change old) (knows old) (tells refusal) before after)
+told sound truthful held (Rested none same still) = tt
+told sound truthful held (Went call answer is came on) = tt
+told {H = H} {Folder = Folder} {Change = Change} {knows = knows} {tells = tells} {old = old} {new = new} {before = before} {after = after} sound truthful held
+    (Refused call answer refusal is came on) =
+    let keeps : (ops : List Op) → Answers call answer (files_after ops) → Keeps Folder (Change old) (knows old) (tells refusal) (whole call) (files_after ops) =
+    λ ops here h folder known.
+    let led = (rw is at (sound.refused old new answer refusal (files_after ops) h on folder known)) here in (
+      (rw is at (sound.changes old (files_after ops) h folder known)),
+      (led.0, led.1, (rw is at (truthful.answered old new answer refusal (files_after ops) h led.0 held on folder known)) here led.1),
+    ) in
+    inl (whole call, refl, Steps-weaker (whole call) _ _ before after keeps came.0)
+told sound truthful held (Stopped call is meanwhile stop) = inr (meanwhile, λ f h folder known. truthful.memory f h)
+told {H = H} {Folder = Folder} {Change = Change} {knows = knows} {tells = tells} {old = old} {new = new} {before = before} {after = after} sound truthful held
+    (Failed call is came stop) =
+    let effect : Effect = came.0.0 in
+    let op : Op = own_op call effect in
+    let keeps : (ops : List Op) → MayHave call effect (files_after ops) →
+    Keeps Folder (Change old) (knows old) (tells (refusals.StoreFault (path_of call))) op (files_after ops) =
+    λ ops may h folder known.
+    let led = (rw is at (sound.failed old new effect (files_after ops) h stop folder known)) may in
+    ((rw is at (sound.changes old (files_after ops) h folder known)), (led.0, led.1, truthful.fault (path_of call) _ led.0)) in
     inl (op, refl, Steps-weaker op _ _ before after keeps came.0.1)
 
 -- a step is the next event after whatever the machine's calls were, or no event

@@ -14,7 +14,7 @@ use Rattle.pm_store.specs.declared.call.Call.{Call}
 use Rattle.pm_store.specs.declared.call.Effect.{Effect}
 use Rattle.pm_store.specs.declared.call.Effect.TheVariants as effects
 use Rattle.pm_store.proofs.FileLaws.{effect_left}
-use Rattle.pm_machine.specs.Moves.{IsKept, Leads, Sound}
+use Rattle.pm_machine.specs.Moves.{IsKept, Leads, Sound, Truthful}
 use Rattle.pm_machine.specs.Running.{Refuses, Stops}
 use Rattle.pm_machine.specs.Step.{path_of}
 use Rattle.pm_machine.specs.Trace.{Event, IsFailed, MayEnd, Recounts, Traces, after_answer, before_call, answered, faulted}
@@ -67,6 +67,44 @@ module _ {P H : Type 0} (call_of : P → Option Call) (Goes : P → Answer → P
         (λ call same may. leads_still new f (after_effect call effect f) h (same effect) (over_knows new f h stops));
     stopped = λ m new f h called stops folder known. over_knows new f h stops;
   }
+
+-- and tell what is so once what they know gives it where an answer shows the refusal
+module _ {P H : Type 0} (call_of : P → Option Call) (holds : P → Type 0) (Shown : P → Answer → Refusal → Type 0) (end : P)
+    (Folder : Files → H → Type 0) (knows : P → Files → H → Type 0) (tells : Refusal → Files → H → Type 0)
+    (spares : (m : P) (f : Files) → IfSome (call_of m) (Spares f))
+    (cause : (m : P) (call : Call) (answer : Answer) (refusal : Refusal) (f : Files) (h : H) → holds m → Folder f h → knows m f h
+    → call_of m ≡ Some call → Answers call answer f → Shown m answer refusal → tells refusal f h)
+    (memory : (f : Files) (h : H) → tells refusals.Memory f h)
+    (fault : (path : List ℕ) (f : Files) (h : H) → tells (refusals.StoreFault path) f h) where
+  told_now : (m : P) (next : Option Call) (answer : Answer) (refusal : Refusal) (f : Files) (h later : H) → call_of m ≡ next → holds m
+      → Shown m answer refusal → Folder f h → knows m f h → IfSome next (Spares f)
+      → IfSome next (λ call. Answers call answer f → IsKept f h (carried call f) later → tells refusal (carried call f) later)
+  told_now m None answer refusal f h later is held shown folder known spared = tt
+  told_now m (Some call) answer refusal f h later is held shown folder known spared = λ answered kept.
+      subst (λ (g : Files). tells refusal g later) (sym (spared effects.Whole))
+      (subst (λ (h : H). tells refusal f h) (sym kept.past) (cause m call answer refusal f h held folder known is answered shown))
+
+  pub truthful_of_spared : Truthful call_of holds (Refuses Shown end) Folder (λ m. IsKept) knows tells
+  truthful_of_spared = record {
+    answered = λ m new answer refusal f h later held refuses folder known.
+        told_now m (call_of m) answer refusal f h later refl held refuses.0 folder known (spares m f);
+    memory = memory;
+    fault = fault;
+  }
+
+-- whoever tells nothing tells what is so
+nothing_told : (One Other : Call → Type 0) (next : Option Call) → IfSome next (λ call. One call → Other call → Unit {0})
+nothing_told One Other None = tt
+nothing_told One Other (Some call) = λ one other. tt
+
+pub truthful_of_none : {P H : Type 0} (call_of : P → Option Call) (holds : P → Type 0) (refuses : P → Answer → Refusal → P → Type 0)
+    (Folder : Files → H → Type 0) (Change : P → Files → H → Files → H → Type 0) (knows : P → Files → H → Type 0)
+    → Truthful call_of holds refuses Folder Change knows (λ refusal f h. Unit {0})
+truthful_of_none call_of holds refuses Folder Change knows = record {
+  answered = λ m new answer refusal f h later held refused folder known. nothing_told _ _ (call_of m);
+  memory = λ f h. tt;
+  fault = λ path f h. tt;
+}
 
 -- ---- what calls show
 

@@ -3,6 +3,7 @@
 use Rattle.std.specs.Prelude.{◌≡◌, ◌⊎◌, ℕ, List, Option, IsSome, IfSome, IsSomeAnd, true}
 use Rattle.std.specs.FinMap as map
 use Rattle.pm_values.specs.declared.refusal.Refusal.{Refusal}
+use Rattle.pm_values.specs.declared.refusal.Refusal.TheVariants as refusals
 use Rattle.pm_store.specs.declared.answer.Answer.{Answer}
 use Rattle.pm_store.specs.declared.call.Call.{Call}
 use Rattle.pm_store.specs.declared.call.Effect.{Effect}
@@ -57,6 +58,19 @@ pub record Sound {M H : Type 0} (call_of : M → Option Call) (goes : M → Answ
       IfSome (call_of m) (λ call. MayHave call effect f → Leads (Change m) (knows new) f h (after_effect call effect f))
   pub stopped : (m new : M) (f : Files) (h : H) → IsSome (call_of m) → stops m new → Folder f h → knows m f h →
       knows new f h
+
+-- What a machine proves once of its refusals: that what it tells of one is true of any files of which what it knows was,
+-- after the answer that shows it. Of memory that ran out, and of a fault of the store, it tells what is always true.
+pub record Truthful {M H : Type 0} (call_of : M → Option Call) (holds : M → Type 0)
+    (refuses : M → Answer → Refusal → M → Type 0) (Folder : Files → H → Type 0)
+    (Change : M → Files → H → Files → H → Type 0) (knows : M → Files → H → Type 0)
+    (tells : Refusal → Files → H → Type 0) : Type 0 where
+  pub answered : (m new : M) (answer : Answer) (refusal : Refusal) (f : Files) (h later : H) → holds m →
+      refuses m answer refusal new → Folder f h → knows m f h →
+      IfSome (call_of m) (λ call. Answers call answer f → Change m f h (carried call f) later →
+      tells refusal (carried call f) later)
+  pub memory : (f : Files) (h : H) → tells refusals.Memory f h
+  pub fault : (path : List ℕ) (f : Files) (h : H) → tells (refusals.StoreFault path) f h
 
 -- through each change of a kind the files stand for a history, and of both this stays true
 abbrev pub Lasts : {H : Type 0} → (Files → H → Type 0) → (Files → H → Files → H → Type 0) → (Files → H → Type 0) →

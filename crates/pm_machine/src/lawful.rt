@@ -1,7 +1,7 @@
 //! Readers whose phases keep the laws, and their steps.
 
 ghost use Rattle.std.specs.Prelude.{◌≡◌, ◌⊎◌, ◌<◌, IsSome, IfErr, OnOk, OnErr};
-ghost use Rattle.pm_machine.specs.Moves.{IsKept, Moves, Sound};
+ghost use Rattle.pm_machine.specs.Moves.{IsKept, Moves, Sound, Truthful};
 ghost use Rattle.pm_machine.specs.Running.{Refuses, Stops};
 ghost use Rattle.pm_machine.specs.Trace.{Acts, Recounts};
 ghost use Rattle.pm_store.specs.declared.answer.Answer.{Answer};
@@ -19,6 +19,8 @@ pub trait LawfulPhase: ReaderPhase {
     fn laws()
         ensures sound { Sound Self.call_of Self.goes (Refuses Self.shown Self.end) (Stops Self.end) Self.Folder
             (λ m. IsKept) Self.knows }
+        ensures truthful { Truthful Self.call_of Self.holds (Refuses Self.shown Self.end) Self.Folder (λ m. IsKept)
+            Self.knows Self.tells }
         ensures recounts { (asked : Self.Asked) → Recounts Self.call_of Self.goes (Refuses Self.shown Self.end)
             (Stops Self.end) (Self.did asked) (Self.shows asked) }
         ensures goes { (m : Self) (answer : Answer) (new : Self) → Self.holds m → Self.goes m answer new
@@ -36,6 +38,8 @@ pub fn take_step<P: LawfulPhase, F: FileStore>(
     requires { 0 < P.calls_left reader.old }
     ensures moves { Moves P.Folder IsKept (P.knows reader.old) (P.knows reader.new) (F.seen store.old)
         (F.seen store.new) }
+    ensures tells { IfErr result (λ refusal. Moves P.Folder IsKept (P.knows reader.old) (P.tells refusal)
+        (F.seen store.old) (F.seen store.new)) }
     ensures acts { (asked : P.Asked) → Acts (P.did asked reader.old) (λ own. P.did asked reader.new own
         × IfErr result (λ refusal. P.shows asked refusal own)) (F.seen store.old) (F.seen store.new) }
     ensures reaches { OnOk result (P.ready reader.new ⊎ (0 < P.calls_left reader.new)) }

@@ -24,6 +24,9 @@ pub trait PhaseMeaning: Phase {
     /// What it knows of the files and of what they stand for.
     ghost knows: { Self → Files → History → Type 0 };
 
+    /// What a refusal tells of the files and of what they stand for.
+    ghost tells: { Refusal → Files → History → Type 0 };
+
     /// What it may have been asked for, which its calls so far depend on.
     ghost Asked: { Type 0 };
 

@@ -20,6 +20,9 @@ pub trait ReaderPhase: Phase {
     /// What it knows of the files and of what they stand for.
     ghost knows: { Self → Files → History → Type 0 };
 
+    /// What a refusal tells of the files and of what they stand for.
+    ghost tells: { Refusal → Files → History → Type 0 };
+
     /// What it may have been asked for, which its calls so far depend on.
     ghost Asked: { Type 0 };
 
@@ -49,6 +52,8 @@ impl<P: ReaderPhase> PhaseMeaning for P {
     ghost Change = { λ m. IsKept };
 
     ghost knows = { P.knows };
+
+    ghost tells = { P.tells };
 
     ghost Asked = { P.Asked };
 

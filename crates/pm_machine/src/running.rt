@@ -1,7 +1,7 @@
 //! A machine that is made of phases.
 
 ghost use Rattle.std.specs.Prelude.{◌≡◌, ◌<◌, None, IsSome, IfOk, IfErr, OnOk, OnErr};
-ghost use Rattle.pm_machine.specs.Moves.{Moves, Sound};
+ghost use Rattle.pm_machine.specs.Moves.{Moves, Sound, Truthful};
 ghost use Rattle.pm_machine.specs.Running.{Refuses, Stops};
 ghost use Rattle.pm_machine.specs.Trace.{Acts, Recounts};
 ghost use Rattle.pm_store.specs.declared.answer.Answer.{Answer};
@@ -126,6 +126,7 @@ pub fn make_step<P: PhaseMeaning, F: FileStore>(
     store: &mut F,
 ) -> Result<P::Step, Refusal>
     requires sound { Sound P.call_of P.goes (Refuses P.shown P.end) (Stops P.end) P.Folder P.Change P.knows }
+    requires truthful { Truthful P.call_of P.holds (Refuses P.shown P.end) P.Folder P.Change P.knows P.tells }
     requires recounts { (asked : P.Asked)
         → Recounts P.call_of P.goes (Refuses P.shown P.end) (Stops P.end) (P.did asked) (P.shows asked) }
     requires goes { (m : P) (answer : Answer) (new : P) → P.holds m → P.goes m answer new
@@ -134,6 +135,8 @@ pub fn make_step<P: PhaseMeaning, F: FileStore>(
     requires left { 0 < P.calls_left machine.old }
     ensures moves { Moves P.Folder (P.Change machine.old) (P.knows machine.old) (P.knows machine.new)
         (F.seen store.old) (F.seen store.new) }
+    ensures tells { IfErr result (λ refusal. Moves P.Folder (P.Change machine.old) (P.knows machine.old)
+        (P.tells refusal) (F.seen store.old) (F.seen store.new)) }
     ensures acts { (asked : P.Asked) → Acts (P.did asked machine.old) (λ own. P.did asked machine.new own
         × IfErr result (λ refusal. P.shows asked refusal own)) (F.seen store.old) (F.seen store.new) }
     ensures reaches { IfOk result (λ step. P.reaches step machine.new) }

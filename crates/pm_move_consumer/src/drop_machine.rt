@@ -64,6 +64,8 @@ impl PhaseMeaning for DropPhase {
 
     ghost knows = { KnowsBeside };
 
+    ghost tells = { λ refusal f p. Unit {0} };
+
     ghost Asked = { List ℕ };
 
     ghost did = { Did };

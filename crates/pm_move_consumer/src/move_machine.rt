@@ -70,6 +70,8 @@ impl PhaseMeaning for MovePhase {
 
     ghost knows = { KnowsBeside };
 
+    ghost tells = { λ refusal f p. Unit {0} };
+
     ghost Asked = { movers.Moving };
 
     ghost did = { Did };

@@ -11,12 +11,12 @@ use Rattle.pm_store.specs.Answers.{Answers}
 use Rattle.pm_store.specs.Files.{Files, files_after}
 use Rattle.pm_store.specs.Store.{StoreView, whole}
 use Rattle.pm_store.proofs.StepLaws.{Steps-weaker}
-use Rattle.pm_machine.specs.Moves.{IsKept, Keeps}
+use Rattle.pm_machine.specs.Moves.{IsKept, Keeps, Moves}
 use Rattle.pm_machine.specs.Step.{Answered}
 use Rattle.pm_machine.specs.Trace.{Acts, Ended, Event}
 use Rattle.pm_model_folder.specs.Ledger.{Past, Stands}
 use Rattle.pm_model_folder.specs.Paths.{consumer_path}
-use Rattle.pm_read_schema.specs.Beside.{AnyPast, Learns}
+use Rattle.pm_read_schema.specs.Beside.{AnyPast, IsTold, Learns}
 use Rattle.pm_read_schema.proofs.AllCallsLemmas.{read_still}
 use Rattle.pm_read_schema.proofs.BesideFacts.{PastStays, learns-moves, learns-none}
 use Rattle.pm_read_schema.proofs.LeadLemmas.{head_same}
@@ -24,7 +24,7 @@ use Rattle.pm_read_schema.proofs.StillLemmas.{IsStill}
 use Rattle.pm_read_consumer.specs.AllCalls.{FindsBeside, NoneStood}
 use Rattle.pm_read_consumer.specs.Meaning.{IsFoundIn}
 use Rattle.pm_read_consumer.specs.Reader.{IsDamaged, consumer_call}
-use Rattle.pm_read_consumer.specs.Trace.{Did, HasFound, Shows, read_consumer}
+use Rattle.pm_read_consumer.specs.Trace.{Did, HasFound, read_consumer}
 use Rattle.pm_read_consumer.specs.declared.phase.FoundConsumer.{FoundConsumer}
 use Rattle.pm_read_consumer.specs.declared.phase.Phase.{Phase}
 use Rattle.pm_read_consumer.specs.declared.phase.Phase.TheVariants as phases
@@ -86,16 +86,11 @@ found-beside past counted framed name r old new before after first last (inr (me
     let has : HasFound name r [] = subst (λ (m : Phase). Did name m []) last (next [] did).0 in
     no_event (read_consumer name r.found) has.1
 
-pub refused-beside : PastStays → (name : List ℕ) (refusal : Refusal) (old new : Phase) (before after : StoreView)
-    → old ≡ phases.Read (consumer_path name) → Acts (Did name old) (λ own. Did name new own × Shows name refusal own) before after
-    → FindsBeside name before after (Err refusal)
-refused-beside past name (refusals.Damaged path place) old new before after first (inl (event, ended, next)) =
-    let did : Did name old [] = subst (λ (m : Phase). Did name m []) (sym first) (refl, refl) in
-    let (bytes, at, zero, bad, is) = (next [] did).1 in
-    damaged-learned past name bytes before after bad
-    (answered-event name (Some bytes) event before after (head_same event (read_consumer name (Some bytes)) [] [] is) ended)
-refused-beside past name (refusals.Damaged path place) old new before after first (inr (meanwhile, next)) =
-    let did : Did name old [] = subst (λ (m : Phase). Did name m []) (sym first) (refl, refl) in
-    let (bytes, at, zero, bad, is) = (next [] did).1 in
-    no_event (read_consumer name (Some bytes)) is
-refused-beside past name other old new before after first acted = tt
+pub refused-beside : PastStays → (name : List ℕ) (refusal : Refusal) (before after : StoreView)
+    → Moves Stands IsKept AnyPast (IsTold refusal) before after → FindsBeside name before after (Err refusal)
+refused-beside past name refusal before after =
+    learns-moves past AnyPast AnyPast (IsTold refusal) before before after (λ other f after p q stands advances known. tt) (learns-none AnyPast before)
+
+-- no call was made
+pub none-beside : (name : List ℕ) (store : StoreView) → FindsBeside name store store (Err refusals.Memory)
+none-beside name store = learns-none AnyPast store

@@ -11,10 +11,10 @@ use Rattle.pm_store.specs.declared.call.Call.TheVariants as calls
 use Rattle.pm_store.specs.Answers.{Answers, MayAnswer}
 use Rattle.pm_store.specs.Files.{Files}
 use Rattle.pm_store.specs.Images.{MayLeave}
-use Rattle.pm_machine.specs.Moves.{IsKept, Sound}
+use Rattle.pm_machine.specs.Moves.{IsKept, Sound, Truthful}
 use Rattle.pm_machine.specs.Running.{Refuses, Stops}
 use Rattle.pm_machine.specs.Trace.{Event, Recounts, after_answer, answered}
-use Rattle.pm_machine.proofs.PhaseFacts.{Spares, image_spared, recounts_of, sound_of_spared}
+use Rattle.pm_machine.proofs.PhaseFacts.{Spares, image_spared, recounts_of, sound_of_spared, truthful_of_spared}
 use Rattle.pm_model_consumers.specs.Claims.{Claim, Counts, free, settled}
 use Rattle.pm_model_history.specs.History.{Entry, History, IsTableOf, no_table, table}
 use Rattle.pm_model_following.specs.Following.{frame}
@@ -27,10 +27,10 @@ use Rattle.pm_model_folder.specs.Ledger.{KnowsPast, Past, Stands}
 use Rattle.pm_model_folder.specs.Meaning.{ConsumerAt, IsLeast}
 use Rattle.pm_model_folder.specs.Paths.{consumer_path}
 use Rattle.pm_model_folder.proofs.LedgerFacts.{at-table}
-use Rattle.pm_read_schema.specs.Beside.{AnyPast}
+use Rattle.pm_read_schema.specs.Beside.{AnyPast, IsTold}
 use Rattle.pm_read_schema.proofs.Facts.{read_effect}
 use Rattle.pm_read_consumer.specs.Meaning.{IsFoundIn, IsServed}
-use Rattle.pm_read_consumer.specs.Reader.{Says, IsDamaged, consumer_call, next_call, calls_left, IsReady, found_as, Goes, Shown}
+use Rattle.pm_read_consumer.specs.Reader.{Says, IsDamaged, consumer_call, next_call, calls_left, IsReady, ReadsConsumer, found_as, Goes, Shown}
 use Rattle.pm_read_consumer.specs.Trace.{DidSoFar, MayTakeMemory, Shows, Did}
 use Rattle.pm_read_consumer.specs.declared.phase.FoundConsumer.{FoundConsumer}
 use Rattle.pm_read_consumer.specs.declared.phase.Phase.{Phase}
@@ -188,3 +188,17 @@ reads_always name (answers.Found (Some bytes)) refusal f p stands told (inl is) 
 reads_always name (answers.Found (Some bytes)) refusal f p stands told (inr is) =
     absurd (not_damaged f p.history name bytes stands.folder told is.1)
 reads_always name answer refusal f p stands told shown = absurd shown
+
+-- what a refusal tells
+cause_at : (m : Phase) (answer : Answer) (refusal : Refusal) (f : Files) (p : Past) → ReadsConsumer m → Stands f p → Shown m answer refusal
+    → IfSome (next_call m) (λ call. Answers call answer f → IsTold refusal f p)
+cause_at (phases.Read path) answer refusal f p (name, at) stands shown = λ told.
+    let memory = reads_always name answer refusal f p stands (subst (λ (path : List ℕ). Answers (calls.Read path) answer f) at told)
+    (subst (λ (path : List ℕ). Shown (phases.Read path) answer refusal) at shown) in
+    subst (λ (refusal : Refusal). IsTold refusal f p) (sym memory) tt
+cause_at m answer refusal f p reads stands shown = absurd shown
+
+pub truthful : Truthful next_call ReadsConsumer (Refuses Shown phases.Over) Stands (λ m. IsKept) (λ m. AnyPast) IsTold
+truthful = truthful_of_spared next_call ReadsConsumer Shown phases.Over Stands (λ m. AnyPast) IsTold spares
+    (λ m call answer refusal f p reads stands known is told shown. (rw is at (cause_at m answer refusal f p reads stands shown)) told)
+    (λ f p. tt) (λ path f p. tt)

@@ -3,7 +3,6 @@
 use Rattle.std.specs.Prelude.{◌≡◌, ℕ, List, Result, Ok, Err, IfOk, IfErr}
 use Rattle.std.specs.FinMap as map
 use Rattle.pm_values.specs.declared.refusal.Refusal.{Refusal}
-use Rattle.pm_values.specs.declared.refusal.Refusal.TheVariants as refusals
 use Rattle.pm_store.specs.Files.{Files}
 use Rattle.pm_store.specs.Store.{StoreView, FromFirst}
 use Rattle.pm_machine.specs.Trace.{Event}
@@ -11,7 +10,7 @@ use Rattle.pm_model_history.specs.History.{History}
 use Rattle.pm_model_folder.specs.Folder.{Folder}
 use Rattle.pm_model_folder.specs.Paths.{consumer_path}
 use Rattle.pm_read_schema.specs.AllCalls.{HasFiles, Stay}
-use Rattle.pm_read_schema.specs.Beside.{AnyPast, Learns}
+use Rattle.pm_read_schema.specs.Beside.{AnyPast, IsTold, Learns}
 use Rattle.pm_read_latest.specs.AllCalls.{IsCaused}
 use Rattle.pm_read_consumer.specs.Meaning.{IsFoundIn}
 use Rattle.pm_read_consumer.specs.Reader.{Says}
@@ -46,8 +45,7 @@ abbrev pub NoneStood : StoreView → StoreView → Type 0
 NoneStood before after = Learns AnyPast (λ f p. ⊥) before after
 
 -- What it makes known at its end, whatever others do before the call and after it: what was found is there, with what
--- that shows of the table; and a damaged file shows that no table stood.
+-- that shows of the table; and a refusal tells what is so: where a table stood, no file is damaged.
 abbrev pub FindsBeside : List ℕ → StoreView → StoreView → Result FoundConsumer Refusal → Type 0
 FindsBeside name before after (Ok r) = Learns AnyPast (IsFoundIn name r) before after
-FindsBeside name before after (Err (refusals.Damaged path place)) = NoneStood before after
-FindsBeside name before after (Err other) = Unit {0}
+FindsBeside name before after (Err refusal) = Learns AnyPast (IsTold refusal) before after

@@ -38,6 +38,11 @@ next_call (phases.Read path) = Some (calls.Read path)
 next_call (phases.Ready r) = None
 next_call phases.Over = None
 
+-- what it reads is the file of a consumer
+abbrev pub ReadsConsumer : Phase → Type 0
+ReadsConsumer (phases.Read path) = (name : List ℕ) × (path ≡ consumer_path name)
+ReadsConsumer other = Unit {0}
+
 -- how many calls are left at most
 abbrev pub calls_left : Phase → ℕ
 calls_left (phases.Read path) = 1

@@ -16,7 +16,8 @@ use std::alloc::Global;
 
 /// The file of the consumer of a name, and what it says, where it is there: one call of the store. Refuses with
 /// `Damaged` exactly where the bytes don't read; `StoreFault`; or out of memory. Whatever others do meanwhile, what was
-/// found is there when it is read, and no file is damaged of a table that stands.
+/// found is there when it is read, and no file is damaged of a table that stands: a refusal is want of memory or a
+/// fault of the store.
 pub fn find_consumer<F: FileStore>(
     alloc: Global,
     name: &Txt,

@@ -3,8 +3,8 @@
 ghost use Rattle.std.specs.Prelude.{IfErr, IfOk, List, Some, ℕ};
 ghost use Rattle.pm_model_folder.specs.Ledger as ledgers;
 ghost use Rattle.pm_store.specs.declared.answer.Answer.TheVariants as answers;
-ghost use Rattle.pm_read_schema.specs.Beside.{AnyPast};
-ghost use Rattle.pm_read_consumer.specs.Reader.{calls_left, next_call, Goes, IsReady, Shown};
+ghost use Rattle.pm_read_schema.specs.Beside.{AnyPast, IsTold};
+ghost use Rattle.pm_read_consumer.specs.Reader.{calls_left, next_call, Goes, IsReady, ReadsConsumer, Shown};
 ghost use Rattle.pm_read_consumer.specs.Trace.{Did, Shows};
 ghost use Rattle.pm_read_consumer.specs.declared.phase.Phase.TheVariants as phases;
 
@@ -23,7 +23,7 @@ impl pm_machine::Phase for Phase {
 
     ghost shown = { Shown };
 
-    ghost holds = { λ phase. Unit {0} };
+    ghost holds = { ReadsConsumer };
 
     ghost end = { phases.Over };
 
@@ -51,6 +51,7 @@ impl pm_machine::Phase for Phase {
 /// The phase once this was found at the path.
 fn after_read(alloc: Global, path: Txt, found: Option<Blob>) -> Result<Phase, Refusal>
     ensures goes { IfOk result (Goes (phases.Read path) (answers.Found found)) }
+    ensures holds { IfOk result ReadsConsumer }
     ensures refuses { IfErr result (Shown (phases.Read path) (answers.Found found)) }
 {
     match found {
@@ -70,6 +71,7 @@ fn after_read(alloc: Global, path: Txt, found: Option<Blob>) -> Result<Phase, Re
 /// The phase once these bytes were found at the path.
 fn after_bytes(alloc: Global, path: Txt, bytes: Blob) -> Result<Phase, Refusal>
     ensures goes { IfOk result (Goes (phases.Read path) (answers.Found (Some bytes))) }
+    ensures holds { IfOk result ReadsConsumer }
     ensures refuses { IfErr result (Shown (phases.Read path) (answers.Found (Some bytes))) }
 {
     match read_consumer(alloc, bytes.as_bytes()) {
@@ -100,6 +102,8 @@ impl ReaderPhase for Phase {
     ghost Folder = { ledgers.Stands };
 
     ghost knows = { λ phase. AnyPast };
+
+    ghost tells = { IsTold };
 
     ghost Asked = { List ℕ };
 

@@ -48,7 +48,7 @@ use Rattle.pm_read_expiry.proofs.ListLemmas.{list_lister, listed_to, no_first, r
 
 -- ---- its calls change nothing
 
-spares : (m : Phase) (f : Files) → IfSome (next_call m) (Spares f)
+pub spares : (m : Phase) (f : Files) → IfSome (next_call m) (Spares f)
 spares (phases.Snapshots a m) f = listing_facts.spares m f
 spares (phases.Floors a m) f = λ effect. list_effect floor_folder effect f
 spares (phases.Consumers l c) f = consumers_facts.spares c f

@@ -153,6 +153,7 @@ pub none_known : (a : Asking) (m : listing.Phase) (x : Found) (f : Files) (p : P
 none_known a m x f p known none = record {
   table = subst (λ (s : TableSchema). IsTableOf s p.history) (sym none.schema) (table_known a m f p known);
   last = λ some. absurd (let zero = none.last in omega (arith, zero, some));
+  kept = λ some. absurd (let zero = none.last in omega (arith, zero, some));
   gone = λ some. absurd (let zero = none.first in omega (arith, zero, some));
 }
 
@@ -163,6 +164,7 @@ found_of a r next names x f p known none found =
     record {
       table = subst (λ (s : TableSchema). IsTableOf s p.history) (sym found.schema) (table_known a (listers.Read r) f p known);
       last = λ some. subst (IsKnown p) (sym found.last) (known.known.ids (last_id found.chain) ids.last);
+      kept = λ some. subst (IsKnown p) (sym found.first) (known.known.ids (first_id found.chain) ids.first);
       gone = λ some. elim (known.each (first_id found.chain) ids.first) as (λ _. HaveGoneBetween f p x.schema x.first) [
         | inl has ↦ absurd (ids.begins (subst (λ (n : ℕ). 1 ≤ n) found.first some) has)
         | inr gone ↦ subst (λ (s : TableSchema). HaveGoneBetween f p s x.first) (sym found.schema)
@@ -203,5 +205,6 @@ module _ (law : GoneStays) (other : Actor) (f after : Files) (p q : Past) (stand
   found_still x known = record {
     table = table_still x.schema known.table;
     last = λ some. known-still other f after p q x.last advances (known.last some);
+    kept = λ some. known-still other f after p q x.first advances (known.kept some);
     gone = λ some. law other f after p q x.schema x.first stands advances known.table (known.gone some);
   }

@@ -1,3 +1,4 @@
+pub mod CauseLemmas
 pub mod Facts
 mod KnowsLemmas
 mod ListLemmas

@@ -29,11 +29,12 @@ KnowsLister a (listers.List s) f p = (s ≡ a.schema) × IsTableOf a.schema p.hi
 KnowsLister a (listers.Read r) f p = KnowsReading a f p r
 KnowsLister a other f p = ⊥
 
--- what was found: the table is there, the last is one of its snapshots, whether or not it has gone since, and none
--- below the first is there but the origin
+-- what was found: the table is there, the first and the last are two of its snapshots, whether or not these have gone
+-- since, and none below the first is there but the origin
 pub record KnowsFound (x : Found) (f : Files) (p : Past) : Type 0 where
   pub table : IsTableOf x.schema p.history
   pub last : 1 ≤ x.last → IsKnown p x.last
+  pub kept : 1 ≤ x.last → IsKnown p x.first
   pub gone : 1 ≤ x.first → HaveGoneBetween f p x.schema x.first
 
 -- What it knows in each phase, whatever others do. Of consumers nothing that lasts is known.

@@ -20,7 +20,7 @@ mod reader;
 mod times;
 
 pub use asking::{Asking, Found, Listed};
-pub use laws::{images_law, known_law};
+pub use laws::{causes_law, images_law, known_law};
 pub use phase::Phase;
 pub use reader::{ExpiryReader, expiry_reader, into_found, is_found};
 pub use times::least_next;

@@ -9,25 +9,30 @@ use Rattle.pm_store.specs.Files.{Files}
 use Rattle.pm_store.specs.declared.answer.Answer.{Answer}
 use Rattle.pm_store.specs.declared.answer.Answer.TheVariants as answers
 use Rattle.pm_store.specs.declared.call.Call.{Call}
+use Rattle.pm_machine.specs.Moves.{IsKept, Truthful}
+use Rattle.pm_machine.specs.Running.{Refuses}
+use Rattle.pm_machine.proofs.PhaseFacts.{truthful_of_spared}
 use Rattle.pm_schema.specs.declared.schema.TableSchema.{TableSchema}
 use Rattle.pm_run.specs.Reader.{OpensRun, RunView, StillGives, before_first}
 use Rattle.pm_run.specs.Rows.{Follow, HasRows, Opened, opened_with}
 use Rattle.pm_manifest.specs.declared.entry.Entry as files
 use Rattle.pm_model_folder.specs.Ledger.{Past, Stands}
 use Rattle.pm_model_folder.proofs.HoldLemmas.{OneContents}
+use Rattle.pm_read_schema.specs.Beside.{IsTold}
 use Rattle.pm_read_table.specs.Meaning.{MayRefuse}
-use Rattle.pm_read_table.proofs.CauseLemmas.{at_call, expired, gone_snapshot}
+use Rattle.pm_read_table.proofs.CauseLemmas.{at_call, expired, gone_snapshot, may_tell}
 use Rattle.pm_read_log.specs.LogMeaning as log_meaning
 use Rattle.pm_read_log.specs.LogReader as log
 use Rattle.pm_read_log.specs.declared.log.Log.{Log}
 use Rattle.pm_read_log.specs.declared.log_phase.LogPhase.{LogPhase}
 use Rattle.pm_read_frame.specs.Meaning.{HasTaken, Knows}
-use Rattle.pm_read_frame.specs.Reader.{next_call, Shown}
+use Rattle.pm_read_frame.specs.Reader.{next_call, IsReader, Shown}
 use Rattle.pm_read_frame.specs.Taken.{RefusesFile, file_of, misread, unopened}
 use Rattle.pm_read_frame.specs.declared.file.ChangesFile.{ChangesFile}
 use Rattle.pm_read_frame.specs.declared.phase.Phase.{Phase}
 use Rattle.pm_read_frame.specs.declared.phase.Phase.TheVariants as phases
 use Rattle.pm_read_frame.proofs.ChangeLemmas.{RowLaws, found_same}
+use Rattle.pm_read_frame.proofs.Facts.{spares}
 use Rattle.pm_read_frame.proofs.StoodLemmas.{IsThere, next, next_file, next_stood}
 
 -- a file with rows isn't opened only where memory ran out
@@ -92,3 +97,15 @@ module _ (log_causes : LogCauses) (one : OneContents) (opens : OpensLaw) (laws :
       at_call (next_call (phases.Again id path)) call (λ call. Answers call (answers.Found (Some bytes)) f → MayRefuse f p refusal) at
       (λ told. absurd (let clash : Some bytes ≡ None = told ∙ gone.absent in cc)) told
   causes m call answer refusal f p stands known at told shown = absurd shown
+
+-- ---- what a refusal tells
+
+-- what the law of causes says
+abbrev pub Causes : Type 0
+Causes = (m : Phase) (call : Call) (answer : Answer) (refusal : Refusal) (f : Files) (p : Past) → Stands f p → Knows m f p → next_call m ≡ Some call
+    → Answers call answer f → Shown m answer refusal → MayRefuse f p refusal
+
+pub truthful : Causes → Truthful next_call IsReader (Refuses Shown phases.Over) Stands (λ m. IsKept) Knows IsTold
+truthful law = truthful_of_spared next_call IsReader Shown phases.Over Stands Knows IsTold spares
+    (λ m call answer refusal f p held stands known is told shown. may_tell refusal f p (law m call answer refusal f p stands known is told shown))
+    (λ f p. tt) (λ path f p. tt)

@@ -1,6 +1,6 @@
 //! All calls of a reader of a frame, one after another.
 
-ghost use Rattle.std.specs.Prelude.{◌≤◌, ◌<◌, IfOk};
+ghost use Rattle.std.specs.Prelude.{◌≤◌, ◌<◌, IfErr, IfOk};
 ghost use Rattle.pm_machine.specs.Trace.{HasTrace};
 ghost use Rattle.pm_model_folder.specs.Ledger.{count_of};
 ghost use Rattle.pm_model_history.specs.History.{IsTableOf};
@@ -8,7 +8,7 @@ ghost use Rattle.pm_schema.specs.Again.{IsDeclared};
 ghost use Rattle.pm_snapshot.specs.Names.{greatest};
 ghost use Rattle.pm_store.specs.Store.{StoreView, IsLater};
 ghost use Rattle.pm_read_log.specs.Log.{LogAskedView};
-ghost use Rattle.pm_read_schema.specs.Beside.{Learns};
+ghost use Rattle.pm_read_schema.specs.Beside.{IsTold, Learns};
 ghost use Rattle.pm_read_frame.specs.AllCalls.{DidFrame, Ends, ReadsFrames, text_in};
 ghost use Rattle.pm_read_frame.specs.Meaning.{IsFrame, Knows};
 ghost use Rattle.pm_read_frame.specs.Reader.{calls_left};
@@ -25,7 +25,8 @@ use pm_values::Refusal;
 use std::alloc::Global;
 
 /// Reads the frame of the snapshot with this id, from 1, of the table with this schema: all calls, one after another.
-/// It gives the text. Whatever others do meanwhile, that is the frame of the snapshot, if it was committed before.
+/// It gives the text. Whatever others do meanwhile, that is the frame of the snapshot, if it was committed before; and
+/// a refusal tells what is so at the call that shows it.
 pub fn read_frame<F: FileStore>(
     alloc: Global,
     schema: &TableSchema,
@@ -39,6 +40,9 @@ pub fn read_frame<F: FileStore>(
     ensures beside { IfOk result (λ text. Learns
         (λ f p. IsTableOf schema.now p.history × (id ≤ greatest) × (id ≤ count_of p.history))
         (λ f p. IsFrame p id text.items) (F.seen store.old) (F.seen store.new)) }
+    ensures refused { IfErr result (λ refusal. Learns
+        (λ f p. IsTableOf schema.now p.history × (id ≤ greatest) × (id ≤ count_of p.history)) (IsTold refusal)
+        (F.seen store.old) (F.seen store.new)) }
     ensures later { IsLater (F.seen store.old) (F.seen store.new) }
 {
     all_calls_law();
@@ -59,6 +63,8 @@ fn make_calls<F: FileStore>(
         → HasTrace (Ends a (text_in result)) first (F.seen store.new) }
     ensures beside { (a : LogAskedView) (first : StoreView) → HasTrace (Did a reader) first (F.seen store.old)
         → IfOk result (λ text. Learns (Knows reader) (λ f p. IsFrame p a.id text.items) (F.seen store.old)
+        (F.seen store.new)) }
+    ensures refused { IfErr result (λ refusal. Learns (Knows reader) (IsTold refusal) (F.seen store.old)
         (F.seen store.new)) }
     ensures later { IsLater (F.seen store.old) (F.seen store.new) }
 {

@@ -2,6 +2,7 @@
 
 ghost use Rattle.pm_model_folder.specs.Ledger as ledgers;
 ghost use Rattle.pm_read_log.specs.Log as logs;
+ghost use Rattle.pm_read_schema.specs.Beside.{IsTold};
 ghost use Rattle.pm_read_frame.specs.Meaning.{Knows};
 ghost use Rattle.pm_read_frame.specs.Reader.{calls_left, next_call, Goes, IsReader, IsReady, Shown};
 ghost use Rattle.pm_read_frame.specs.Trace.{Did, Shows};
@@ -59,6 +60,8 @@ impl ReaderPhase for Phase {
     ghost Folder = { ledgers.Stands };
 
     ghost knows = { Knows };
+
+    ghost tells = { IsTold };
 
     ghost Asked = { logs.LogAskedView };
 

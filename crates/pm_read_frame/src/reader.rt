@@ -7,7 +7,7 @@ ghost use Rattle.pm_read_log.specs.declared.log_phase.LogPhase.TheVariants as lo
 ghost use Rattle.pm_read_frame.specs.Reader.{IsReady};
 ghost use Rattle.pm_read_frame.specs.declared.phase.Phase.TheVariants as phases;
 
-use crate::laws::taken_law;
+use crate::laws::{causes_law, taken_law};
 use crate::phase::Phase;
 use pm_machine::{LawfulPhase, Running};
 use pm_manifest::ManifestMeta;
@@ -24,6 +24,7 @@ impl LawfulPhase for Phase {
         one_contents_law();
         one_reading_law::<ManifestMeta>();
         taken_law();
+        causes_law();
     }
 }
 

@@ -7,10 +7,10 @@ use Rattle.pm_store.specs.declared.call.Call.{Call}
 use Rattle.pm_store.specs.Answers.{Answers, MayAnswer}
 use Rattle.pm_store.specs.Files.{Files, IsListing}
 use Rattle.pm_store.specs.Images.{MayLeave}
-use Rattle.pm_machine.specs.Moves.{IsKept, Sound}
+use Rattle.pm_machine.specs.Moves.{IsKept, Sound, Truthful}
 use Rattle.pm_machine.specs.Running.{Refuses, Stops}
 use Rattle.pm_machine.specs.Trace.{Event, Recounts, answered}
-use Rattle.pm_machine.proofs.PhaseFacts.{Spares, image_spared, recounts_of, sound_of_spared}
+use Rattle.pm_machine.proofs.PhaseFacts.{Spares, image_spared, recounts_of, sound_of_spared, truthful_of_spared}
 use Rattle.pm_model_history.specs.History.{History, GoesOn, no_table, table}
 use Rattle.pm_snapshot.specs.Names.{snapshot_name}
 use Rattle.pm_model_folder.specs.Changes.{Actor}
@@ -20,6 +20,7 @@ use Rattle.pm_model_folder.specs.Paths.{snapshot_folder}
 use Rattle.pm_model_folder.proofs.Facts.{goes_on, listed-snapshot, some-none}
 use Rattle.pm_paths.specs.Ids.{IsLatest}
 use Rattle.pm_paths.proofs.ListedLemmas.{latest_is}
+use Rattle.pm_read_schema.specs.Beside.{IsTold}
 use Rattle.pm_read_schema.specs.Reader.{snapshots_call}
 use Rattle.pm_read_schema.specs.Trace.{listed_snapshots}
 use Rattle.pm_read_schema.proofs.Facts.{list_effect}
@@ -69,6 +70,11 @@ knows_next m answer new f p goes stands known = absurd goes
 
 pub sound : Sound next_call Goes (Refuses Shown phases.Over) (Stops phases.Over) Stands (λ m. IsKept) Knows
 sound = sound_of_spared next_call Goes Shown phases.Over Stands Knows spares knows_next (λ f p. tt)
+
+-- no answer is refused
+pub truthful : Truthful next_call (λ m. Unit {0}) (Refuses Shown phases.Over) Stands (λ m. IsKept) Knows IsTold
+truthful = truthful_of_spared next_call (λ m. Unit {0}) Shown phases.Over Stands Knows IsTold spares
+    (λ m call answer refusal f p held stands known is told shown. absurd shown) (λ f p. tt) (λ path f p. tt)
 
 -- ---- its calls
 

@@ -1,6 +1,7 @@
 //! The phases of a reader of the latest snapshot's id, and what they mean.
 
 ghost use Rattle.pm_model_folder.specs.Ledger as ledgers;
+ghost use Rattle.pm_read_schema.specs.Beside.{IsTold};
 ghost use Rattle.pm_read_latest.specs.Meaning.{Knows};
 ghost use Rattle.pm_read_latest.specs.Reader.{calls_left, next_call, Goes, IsReady, Shown};
 ghost use Rattle.pm_read_latest.specs.Trace.{Did, Shows};
@@ -56,6 +57,8 @@ impl ReaderPhase for Phase {
     ghost Folder = { ledgers.Stands };
 
     ghost knows = { Knows };
+
+    ghost tells = { IsTold };
 
     ghost Asked = { Unit {0} };
 

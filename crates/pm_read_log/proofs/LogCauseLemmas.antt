@@ -8,19 +8,23 @@ use Rattle.pm_store.specs.Files.{Files}
 use Rattle.pm_store.specs.declared.answer.Answer.{Answer}
 use Rattle.pm_store.specs.declared.answer.Answer.TheVariants as answers
 use Rattle.pm_store.specs.declared.call.Call.{Call}
+use Rattle.pm_machine.specs.Moves.{IsKept, Truthful}
+use Rattle.pm_machine.specs.Running.{Refuses}
+use Rattle.pm_machine.proofs.PhaseFacts.{truthful_of_spared}
 use Rattle.pm_model_contents.specs.Lists.{IsChangelogEntry, IsManifest, manifest_path}
 use Rattle.pm_model_contents.specs.Named.{changelog_list}
 use Rattle.pm_model_folder.specs.Ledger.{Past, Stands}
 use Rattle.pm_manifest.specs.declared.entry.Entry.{Entry}
+use Rattle.pm_read_schema.specs.Beside.{IsTold}
 use Rattle.pm_read_log.specs.LogMeaning.{Knows}
-use Rattle.pm_read_log.specs.LogReader.{next_call, Shown}
+use Rattle.pm_read_log.specs.LogReader.{next_call, IsLogReader, Shown}
 use Rattle.pm_read_table.specs.Meaning.{MayRefuse}
 use Rattle.pm_read_log.specs.declared.log_phase.LogPhase.{LogPhase}
 use Rattle.pm_read_log.specs.declared.log_phase.LogPhase.TheVariants as phases
-use Rattle.pm_read_table.proofs.CauseLemmas.{OneManifest, at_call, bad_not, expired, gone_snapshot, list_reads, manifest_reads, next_of, one_manifest, only_memory}
+use Rattle.pm_read_table.proofs.CauseLemmas.{OneManifest, at_call, bad_not, expired, gone_snapshot, list_reads, manifest_reads, may_tell, next_of, one_manifest, only_memory}
 use Rattle.pm_read_table.proofs.Facts.{OneList, found_stood, stood_contents}
 use Rattle.pm_read_table.proofs.FaultLemmas.{file_fault}
-use Rattle.pm_read_log.proofs.LogFacts.{changelog_of, next_named}
+use Rattle.pm_read_log.proofs.LogFacts.{changelog_of, next_named, spares}
 
 -- the entries of a manifest within a changelog are a changelog's
 each_within : (before own after entries : List Entry) → entries ≡ before ++ (own ++ after) → AllByRecursion IsChangelogEntry entries → AllByRecursion IsChangelogEntry own
@@ -74,3 +78,10 @@ pub causes : OneList → OneManifest → (m : LogPhase) (call : Call) (answer : 
     → next_call m ≡ Some call → Answers call answer f → Shown m answer refusal → MayRefuse f p refusal
 causes lists manifests m call answer refusal f p stands known at told shown =
     at_call (next_call m) call (λ call. Answers call answer f → MayRefuse f p refusal) at (cause_at lists manifests m answer refusal f p shown stands known) told
+
+-- what a refusal tells
+pub truthful : OneList → OneManifest → Truthful next_call IsLogReader (Refuses Shown phases.Over) Stands (λ m. IsKept) Knows IsTold
+truthful lists manifests = truthful_of_spared next_call IsLogReader Shown phases.Over Stands Knows IsTold spares
+    (λ m call answer refusal f p held stands known is told shown.
+    may_tell refusal f p (causes lists manifests m call answer refusal f p stands known is told shown))
+    (λ f p. tt) (λ path f p. tt)

@@ -1,6 +1,7 @@
 //! The phases of a reader of a changelog, and what they mean.
 
 ghost use Rattle.pm_model_folder.specs.Ledger as ledgers;
+ghost use Rattle.pm_read_schema.specs.Beside.{IsTold};
 ghost use Rattle.pm_read_log.specs.Log as logs;
 ghost use Rattle.pm_read_log.specs.LogMeaning.{Knows};
 ghost use Rattle.pm_read_log.specs.LogReader.{calls_left, next_call, Goes, IsLogReader, IsReady, Shown};
@@ -76,6 +77,8 @@ impl ReaderPhase for LogPhase {
     ghost Folder = { ledgers.Stands };
 
     ghost knows = { Knows };
+
+    ghost tells = { IsTold };
 
     ghost Asked = { logs.LogAskedView };
 

@@ -11,7 +11,7 @@ use crate::log::{Log, LogAsked};
 use crate::log_after::open;
 use crate::log_phase::LogPhase;
 use pm_machine::{LawfulPhase, Running};
-use pm_manifest::ManifestMeta;
+use pm_manifest::{Entry, ManifestMeta};
 use pm_record::one_reading_law;
 use pm_schema::TableSchema;
 use pm_snapshot::Snapshot;
@@ -24,6 +24,7 @@ pub type LogReader = Running<LogPhase>;
 impl LawfulPhase for LogPhase {
     fn laws() {
         one_reading_law::<ManifestMeta>();
+        one_reading_law::<Entry>();
     }
 }
 

@@ -12,10 +12,10 @@ use Rattle.pm_store.specs.declared.call.Effect.TheVariants as effects
 use Rattle.pm_store.specs.Answers.{Answers, MayAnswer}
 use Rattle.pm_store.specs.Files.{Files, IsListing, after_effect}
 use Rattle.pm_store.specs.Images.{MayLeave}
-use Rattle.pm_machine.specs.Moves.{IsKept, Sound}
+use Rattle.pm_machine.specs.Moves.{IsKept, Sound, Truthful}
 use Rattle.pm_machine.specs.Running.{Refuses, Stops}
 use Rattle.pm_machine.specs.Trace.{Event, Recounts, after_answer, answered}
-use Rattle.pm_machine.proofs.PhaseFacts.{Spares, image_spared, recounts_of, sound_of_spared}
+use Rattle.pm_machine.proofs.PhaseFacts.{Spares, image_spared, recounts_of, sound_of_spared, truthful_of_spared}
 use Rattle.pm_model_history.specs.History.{History, IsTableOf, no_table, table, GoesOn}
 use Rattle.pm_schema.specs.Reading.{schema_of}
 use Rattle.pm_schema.specs.declared.schema.TableSchema.{TableSchema}
@@ -28,9 +28,10 @@ use Rattle.pm_model_folder.proofs.Facts.{goes_on, no-schema, only-schema, listed
 use Rattle.pm_model_folder.proofs.LedgerFacts.{beside}
 use Rattle.pm_schema.proofs.Facts.{file_faults}
 use Rattle.pm_snapshot.specs.Names.{greatest, snapshot_name}
+use Rattle.pm_read_schema.specs.Beside.{IsTold}
 use Rattle.pm_read_schema.specs.Names.{HasSnapshot}
 use Rattle.pm_read_schema.specs.Meaning.{IsSchemaId, Knows, KnowsOf, MayRefuse}
-use Rattle.pm_read_schema.specs.Reader.{schemas_call, schema_call, snapshots_call, next_call, calls_left, with_origin, Goes, IsReady, Shown}
+use Rattle.pm_read_schema.specs.Reader.{schemas_call, schema_call, snapshots_call, next_call, calls_left, with_origin, Goes, HasDeclared, IsReady, Shown}
 use Rattle.pm_read_schema.specs.Trace.{listed_schemas, read_schema, listed_snapshots, Has, Misreads, DidSoFar, MayTakeMemory, Shows, Did}
 use Rattle.pm_read_schema.specs.declared.phase.Phase.{Phase}
 use Rattle.pm_read_schema.specs.declared.phase.Phase.TheVariants as phases
@@ -219,6 +220,17 @@ cause_at m answer refusal f h folder known shown = absurd shown
 pub cause : (m : Phase) (call : Call) (answer : Answer) (refusal : Refusal) (f : Files) (p : Past) → Stands f p → Knows m f p
     → next_call m ≡ Some call → Answers call answer f → Shown m answer refusal → MayRefuse p.history refusal
 cause m call answer refusal f p stands known is told shown = (rw is at (cause_at m answer refusal f p.history stands.folder known shown)) told
+
+-- and that is told
+pub may_tell : (refusal : Refusal) (f : Files) (p : Past) → MayRefuse p.history refusal → IsTold refusal f p
+may_tell refusals.Memory f p may = tt
+may_tell refusals.NoTable f p may = may
+may_tell other f p may = absurd may
+
+pub truthful : Truthful next_call HasDeclared (Refuses Shown phases.Over) Stands (λ m. IsKept) Knows IsTold
+truthful = truthful_of_spared next_call HasDeclared Shown phases.Over Stands Knows IsTold spares
+    (λ m call answer refusal f p held stands known is told shown. may_tell refusal f p (cause m call answer refusal f p stands known is told shown))
+    (λ f p. tt) (λ path f p. tt)
 
 pub no_next : (answer : Answer) (new : Phase) (f : Files) → Folder f no_table → Answers schemas_call answer f → ¬ Goes phases.Schemas answer new
 no_next (answers.Listed names) new f folder told (id, newest, is) =

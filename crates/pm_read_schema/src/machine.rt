@@ -6,6 +6,7 @@ ghost use Rattle.pm_model_folder.specs.Paths.{schema_path};
 ghost use Rattle.pm_schema.specs.Again.{IsDeclared};
 ghost use Rattle.pm_store.specs.declared.answer.Answer.TheVariants as answers;
 ghost use Rattle.pm_values.specs.declared.refusal.Refusal.TheVariants as refusals;
+ghost use Rattle.pm_read_schema.specs.Beside.{IsTold};
 ghost use Rattle.pm_read_schema.specs.Meaning.{Knows};
 ghost use Rattle.pm_read_schema.specs.Reader.{calls_left, next_call, with_origin, Goes, HasDeclared, IsReady, Shown};
 ghost use Rattle.pm_read_schema.specs.Trace.{Did, Shows};
@@ -70,6 +71,8 @@ impl ReaderPhase for Phase {
     ghost Folder = { ledgers.Stands };
 
     ghost knows = { Knows };
+
+    ghost tells = { IsTold };
 
     ghost Asked = { Unit {0} };
 

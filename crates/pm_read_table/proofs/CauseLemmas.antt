@@ -10,6 +10,9 @@ use Rattle.pm_store.specs.declared.answer.Answer.TheVariants as answers
 use Rattle.pm_store.specs.declared.call.Call.{Call}
 use Rattle.pm_store.specs.Answers.{Answers}
 use Rattle.pm_store.specs.Files.{Files, IsListing}
+use Rattle.pm_machine.specs.Moves.{IsKept, Truthful}
+use Rattle.pm_machine.specs.Running.{Refuses}
+use Rattle.pm_machine.proofs.PhaseFacts.{truthful_of_spared}
 use Rattle.pm_model_history.specs.History.{IsTableOf}
 use Rattle.pm_schema.specs.declared.schema.TableSchema.{TableSchema}
 use Rattle.pm_snapshot.specs.Names.{greatest}
@@ -37,15 +40,16 @@ use Rattle.pm_model_folder.proofs.Facts.{snapshot-committed, some-none}
 use Rattle.pm_model_folder.proofs.LedgerFacts.{at-table}
 use Rattle.pm_paths.specs.Ids.{IsLatest}
 use Rattle.pm_paths.proofs.ListedLemmas.{latest_is}
+use Rattle.pm_read_schema.specs.Beside.{IsTold}
 use Rattle.pm_read_table.specs.Asked.{Asked}
 use Rattle.pm_read_table.specs.Meaning.{IsReadingOf, Knows, MayRefuse, Stood}
-use Rattle.pm_read_table.specs.Reader.{next_call, IsAbove, IsBad, MisreadsList, MisreadsManifest, RefusesEntries, Shown, disorder, overlap}
+use Rattle.pm_read_table.specs.Reader.{next_call, IsAbove, IsBad, IsViewer, MisreadsList, MisreadsManifest, RefusesEntries, Shown, disorder, overlap}
 use Rattle.pm_read_table.specs.Reading.{ReadingView, live_of}
 use Rattle.pm_read_table.specs.declared.asked.Wanted.{Wanted}
 use Rattle.pm_read_table.specs.declared.asked.Wanted.TheVariants as wants
 use Rattle.pm_read_table.specs.declared.phase.Phase.{Phase}
 use Rattle.pm_read_table.specs.declared.phase.Phase.TheVariants as phases
-use Rattle.pm_read_table.proofs.Facts.{Joined, OneList, bytes_same, found_stood, leaves_more, next_named, one_list, one_snapshot, order_same, some_there, stood_contents}
+use Rattle.pm_read_table.proofs.Facts.{Joined, OneList, bytes_same, found_stood, leaves_more, next_named, one_list, one_snapshot, order_same, some_there, spares, stood_contents}
 use Rattle.pm_read_table.proofs.FaultLemmas.{IsFileFault, file_fault}
 use Rattle.pm_read_table.proofs.TwoLemmas.{first_in, two_in}
 
@@ -318,3 +322,16 @@ pub causes : ReaderLaws → (m : Phase) (call : Call) (answer : Answer) (refusal
     → next_call m ≡ Some call → Answers call answer f → Shown m answer refusal → MayRefuse f p refusal
 causes laws m call answer refusal f p stands known at told shown =
     at_call (next_call m) call (λ call. Answers call answer f → MayRefuse f p refusal) at (cause_at laws m answer refusal f p shown stands known) told
+
+-- ---- what a refusal tells
+
+pub may_tell : (refusal : Refusal) (f : Files) (p : Past) → MayRefuse f p refusal → IsTold refusal f p
+may_tell refusals.Memory f p may = tt
+may_tell (refusals.NoSnapshot id latest) f p (is, above) = (above, omega (arith, is))
+may_tell (refusals.Expired id) f p may = may
+may_tell other f p may = absurd may
+
+pub truthful : ReaderLaws → Truthful next_call IsViewer (Refuses Shown phases.Over) Stands (λ m. IsKept) Knows IsTold
+truthful laws = truthful_of_spared next_call IsViewer Shown phases.Over Stands Knows IsTold spares
+    (λ m call answer refusal f p held stands known is told shown. may_tell refusal f p (causes laws m call answer refusal f p stands known is told shown))
+    (λ f p. tt) (λ path f p. tt)

@@ -9,9 +9,10 @@ use Rattle.pm_schema.specs.declared.schema.TableSchema.{TableSchema}
 use Rattle.pm_snapshot.specs.Names.{greatest}
 use Rattle.pm_snapshot.specs.declared.snapshot.Snapshot.{Snapshot}
 use Rattle.pm_model_folder.specs.Ledger.{IsKnown, Past, count_of}
-use Rattle.pm_model_folder.specs.Meaning.{HasSnapshotAt, SnapshotAt}
+use Rattle.pm_model_folder.specs.Meaning.{SnapshotAt}
 use Rattle.pm_model_folder.specs.Paths.{snapshot_path}
 use Rattle.pm_paths.specs.Ids.{IsGreatestOf}
+use Rattle.pm_read_schema.specs.Beside.{IsExpired}
 use Rattle.pm_manifest.specs.Live.{AreInOrder, Leaves, Live}
 use Rattle.pm_manifest.specs.declared.entry.Entry.{Entry}
 use Rattle.pm_manifest.specs.declared.entry.ManifestMeta.{ManifestMeta}
@@ -102,13 +103,6 @@ Knows (phases.Again a id path) f p = HasGone f p a.schema id
 Knows (phases.Ready v) f p =
     IsTableOf v.schema p.history × IsViewIn p v × KnowsSought f p v.wanted v.listed.items v.id
 Knows phases.Over f p = Unit {0}
-
--- the snapshot with the id was committed, or is the origin, and isn't there
-pub record IsExpired (f : Files) (p : Past) (id : ℕ) : Type 0 where
-  pub schema : TableSchema
-  pub table : IsTableOf schema p.history
-  pub within : id ≤ count_of p.history
-  pub absent : HasSnapshotAt f schema id → ⊥
 
 -- The refusals that answers show where the files stand, whatever others do: the snapshot that is asked for is above the
 -- newest, or has gone, or memory ran out. No file is damaged.

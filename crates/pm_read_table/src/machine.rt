@@ -1,6 +1,7 @@
 //! The phases of a reader of a view, and what they mean.
 
 ghost use Rattle.pm_model_folder.specs.Ledger as ledgers;
+ghost use Rattle.pm_read_schema.specs.Beside.{IsTold};
 ghost use Rattle.pm_read_table.specs.Asked as asks;
 ghost use Rattle.pm_read_table.specs.Meaning.{Knows};
 ghost use Rattle.pm_read_table.specs.Reader.{calls_left, next_call, Goes, IsReady, IsViewer, Shown};
@@ -93,6 +94,8 @@ impl ReaderPhase for Phase {
     ghost Folder = { ledgers.Stands };
 
     ghost knows = { Knows };
+
+    ghost tells = { IsTold };
 
     ghost Asked = { asks.Asked };
 

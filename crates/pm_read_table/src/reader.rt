@@ -13,7 +13,8 @@ use crate::asked::{Asked, Sought, Wanted};
 use crate::phase::Phase;
 use crate::view::View;
 use pm_machine::{LawfulPhase, Running};
-use pm_manifest::{ManifestMeta, joined_law};
+use pm_manifest::{Entry, ManifestMeta, joined_law};
+use pm_model_contents::one_contents_law;
 use pm_record::one_reading_law;
 use pm_schema::TableSchema;
 use std::alloc::Global;
@@ -25,6 +26,8 @@ impl LawfulPhase for Phase {
     fn laws() {
         joined_law();
         one_reading_law::<ManifestMeta>();
+        one_reading_law::<Entry>();
+        one_contents_law();
     }
 }
 

@@ -6,8 +6,12 @@ use Rattle.pm_store.specs.Answers.{Answers}
 use Rattle.pm_store.specs.Files.{Files}
 use Rattle.pm_store.specs.declared.answer.Answer.{Answer}
 use Rattle.pm_store.specs.declared.call.Call.{Call}
+use Rattle.pm_machine.specs.Moves.{IsKept, Truthful}
+use Rattle.pm_machine.specs.Running.{Refuses}
+use Rattle.pm_machine.proofs.PhaseFacts.{truthful_of_spared}
 use Rattle.pm_model_folder.specs.Commits.{Names}
 use Rattle.pm_model_folder.specs.Ledger.{Past, Stands}
+use Rattle.pm_read_schema.specs.Beside.{IsTold}
 use Rattle.pm_read_table.specs.Asked.{KeepsEntries}
 use Rattle.pm_read_log.specs.LogMeaning as log_meaning
 use Rattle.pm_read_log.specs.LogMeaning.{IsLogIn}
@@ -26,6 +30,7 @@ use Rattle.pm_read_whole.specs.Meaning.{AreNamed, Knows, MayRefuse}
 use Rattle.pm_read_whole.specs.Whole.{next_call, paths_of, IsReady, IsWhole, IsWholeOf, Shown}
 use Rattle.pm_read_whole.specs.declared.phase.Phase.{Phase}
 use Rattle.pm_read_whole.specs.declared.phase.Phase.TheVariants as phases
+use Rattle.pm_read_whole.proofs.Facts.{spares}
 
 -- what the laws of causes of the two parts say
 abbrev pub ViewCauses : Type 0
@@ -60,6 +65,18 @@ causes views logs (phases.Log v r) call answer refusal f p stands whole (viewed,
     not_above f p refusal (logs r call answer refusal f p stands known at told shown)
     (λ id latest is. never_above r answer refusal id latest shown is)
 causes views logs m call answer refusal f p stands whole known at told shown = absurd shown
+
+-- what a refusal tells
+pub may_tell : (refusal : Refusal) (f : Files) (p : Past) → MayRefuse f p refusal → IsTold refusal f p
+may_tell refusals.Memory f p may = tt
+may_tell (refusals.Expired id) f p may = may
+may_tell other f p may = absurd may
+
+pub truthful : ViewCauses → LogCauses → Truthful next_call IsWhole (Refuses Shown phases.Over) Stands (λ m. IsKept) Knows IsTold
+truthful views logs = truthful_of_spared next_call IsWhole Shown phases.Over Stands Knows IsTold spares
+    (λ m call answer refusal f p held stands known is told shown.
+    may_tell refusal f p (causes views logs m call answer refusal f p stands held known is told shown))
+    (λ f p. tt) (λ path f p. tt)
 
 -- what the law of whole views says
 abbrev pub WholeNamed : Type 0

@@ -54,7 +54,7 @@ use Rattle.pm_read_whole.proofs.AfterLemmas.{some_same}
 
 -- ---- its calls change nothing
 
-spares : (m : Phase) (f : Files) → IfSome (next_call m) (Spares f)
+pub spares : (m : Phase) (f : Files) → IfSome (next_call m) (Spares f)
 spares (phases.View r) f = reader_facts.spares r f
 spares (phases.Log v r) f = log_facts.spares r f
 spares (phases.Ready v l) f = tt

@@ -1,3 +1,3 @@
 mod AfterLemmas
-mod CauseLemmas
+pub mod CauseLemmas
 pub mod Facts

@@ -7,7 +7,7 @@ use Rattle.pm_model_folder.specs.Commits.{Names}
 use Rattle.pm_model_folder.specs.Ledger.{Past}
 use Rattle.pm_read_log.specs.LogMeaning as log
 use Rattle.pm_read_table.specs.Meaning as reader
-use Rattle.pm_read_table.specs.Meaning.{IsExpired}
+use Rattle.pm_read_schema.specs.Beside.{IsExpired}
 use Rattle.pm_read_log.specs.declared.log_phase.LogPhase.TheVariants as logs
 use Rattle.pm_read_table.specs.declared.phase.Phase.TheVariants as readers
 use Rattle.pm_read_whole.specs.declared.phase.Phase.{Phase}

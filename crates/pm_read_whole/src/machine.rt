@@ -2,6 +2,7 @@
 
 ghost use Rattle.pm_model_folder.specs.Ledger as ledgers;
 ghost use Rattle.pm_read_log.specs.Log as logs;
+ghost use Rattle.pm_read_schema.specs.Beside.{IsTold};
 ghost use Rattle.pm_read_whole.specs.Meaning.{Knows};
 ghost use Rattle.pm_read_whole.specs.Trace.{Did, Shows};
 ghost use Rattle.pm_read_whole.specs.Whole.{calls_left, next_call, Goes, IsReady, IsWhole, Shown};
@@ -53,6 +54,8 @@ impl ReaderPhase for Phase {
     ghost Folder = { ledgers.Stands };
 
     ghost knows = { Knows };
+
+    ghost tells = { IsTold };
 
     ghost Asked = { logs.LogAskedView };
 

@@ -16,7 +16,7 @@ use crate::phase::Phase;
 use pm_base::Txt;
 use pm_machine::{LawfulPhase, Running};
 use pm_manifest::{ManifestMeta, joined_law};
-use pm_read_log::{Log, named_paths};
+use pm_read_log::{Log, log_causes_law, named_paths};
 use pm_read_table::{View, whole_view};
 use pm_record::one_reading_law;
 use pm_schema::TableSchema;
@@ -74,5 +74,7 @@ impl LawfulPhase for Phase {
     fn laws() {
         joined_law();
         one_reading_law::<ManifestMeta>();
+        pm_read_table::causes_law();
+        log_causes_law();
     }
 }

@@ -111,6 +111,8 @@ impl PhaseMeaning for Phase {
 
     ghost knows = { KnowsBeside };
 
+    ghost tells = { λ refusal f p. Unit {0} };
+
     ghost Asked = { registrars.Registering };
 
     ghost did = { Did };

@@ -5,19 +5,25 @@ use Rattle.pm_store.specs.Answers.{Answers}
 use Rattle.pm_store.specs.Files.{Files}
 use Rattle.pm_store.specs.declared.answer.Answer.{Answer}
 use Rattle.pm_store.specs.declared.call.Call.{Call}
+use Rattle.pm_machine.specs.Moves.{IsKept, Truthful}
+use Rattle.pm_machine.specs.Running.{Refuses}
+use Rattle.pm_machine.proofs.PhaseFacts.{truthful_of_spared}
 use Rattle.pm_model_folder.specs.Ledger.{Past, Stands}
+use Rattle.pm_read_schema.specs.Beside.{IsTold}
 use Rattle.pm_read_table.specs.Meaning as reader_meaning
 use Rattle.pm_read_table.specs.Meaning.{MayRefuse}
 use Rattle.pm_read_table.specs.Reader as reader
 use Rattle.pm_read_table.specs.declared.phase.Phase as view_phase
+use Rattle.pm_read_table.proofs.CauseLemmas.{may_tell}
 use Rattle.pm_group_files.specs.Chosen.{Chosen}
 use Rattle.pm_group_files.specs.Meaning as files_meaning
 use Rattle.pm_group_files.specs.Reader as files
 use Rattle.pm_group_files.specs.declared.phase.Phase as files_phase
 use Rattle.pm_scan.specs.Meaning.{all_of, Knows}
-use Rattle.pm_scan.specs.Scanner.{next_call, Shown}
+use Rattle.pm_scan.specs.Scanner.{next_call, IsScanner, Shown}
 use Rattle.pm_scan.specs.declared.phase.Phase.{Phase}
 use Rattle.pm_scan.specs.declared.phase.Phase.TheVariants as phases
+use Rattle.pm_scan.proofs.Facts.{spares}
 
 -- what the law of causes of the view's reader says
 abbrev pub ReaderCauses : Type 0
@@ -37,3 +43,9 @@ causes view own (phases.Files k id m) call answer refusal f p stands known at to
 causes view own (phases.Files k id m) call answer refusal f p stands (v, same, table, known) at told (inr shown) =
     own (all_of k v) m call answer refusal f p stands known at told shown
 causes view own m call answer refusal f p stands known at told shown = absurd shown
+
+-- what a refusal tells
+pub truthful : ReaderCauses → FilesCauses → Truthful next_call IsScanner (Refuses Shown phases.Over) Stands (λ m. IsKept) Knows IsTold
+truthful view own = truthful_of_spared next_call IsScanner Shown phases.Over Stands Knows IsTold spares
+    (λ m call answer refusal f p held stands known is told shown. may_tell refusal f p (causes view own m call answer refusal f p stands known is told shown))
+    (λ f p. tt) (λ path f p. tt)

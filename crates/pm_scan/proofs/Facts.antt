@@ -62,7 +62,7 @@ pub record FileLaws : Type 0 where
 
 -- ---- its calls change nothing
 
-spares : (m : Phase) (f : Files) → IfSome (next_call m) (Spares f)
+pub spares : (m : Phase) (f : Files) → IfSome (next_call m) (Spares f)
 spares (phases.View k r) f = reader_facts.spares r f
 spares (phases.Files k id r) f = files_facts.spares r f
 spares (phases.Ready k id text) f = tt

@@ -1,12 +1,13 @@
 -- What the calls of a scan make known, whatever others do before, between and after these.
 use Rattle.std.specs.Prelude.{ℕ, List, Option, Some}
+use Rattle.pm_values.specs.declared.refusal.Refusal.{Refusal}
 use Rattle.pm_store.specs.Files.{Files}
 use Rattle.pm_store.specs.Store.{StoreView}
 use Rattle.pm_machine.specs.Trace.{HasTrace}
 use Rattle.pm_schema.specs.declared.schema.TableSchema.{TableSchema}
 use Rattle.pm_model_history.specs.History.{IsTableOf}
 use Rattle.pm_model_folder.specs.Ledger.{Past}
-use Rattle.pm_read_schema.specs.Beside.{Learns}
+use Rattle.pm_read_schema.specs.Beside.{IsTold, Learns}
 use Rattle.pm_scan.specs.Asked.{AskedRows, asked_for}
 use Rattle.pm_scan.specs.Meaning.{IsScanOf}
 use Rattle.pm_scan.specs.Trace.{HasScan}
@@ -31,3 +32,8 @@ ScansBeside s at text before after = RowsBeside shown.All s at text before after
 -- of those that are passed on at a snapshot
 abbrev pub PassesBeside : TableSchema → ℕ → List ℕ → StoreView → StoreView → Type 0
 PassesBeside s id text before after = RowsBeside shown.Passed s (Some id) text before after
+
+-- the calls of a scan of a table whose schema was read are refused, and what the refusal tells is known to be so at the
+-- call that shows it
+abbrev pub TellsBeside : TableSchema → Refusal → StoreView → StoreView → Type 0
+TellsBeside s refusal before after = Learns (λ f p. IsTableOf s p.history) (IsTold refusal) before after

@@ -1,6 +1,7 @@
 //! The phases of a scanner, and what they mean.
 
 ghost use Rattle.pm_model_folder.specs.Ledger as ledgers;
+ghost use Rattle.pm_read_schema.specs.Beside.{IsTold};
 ghost use Rattle.pm_scan.specs.Asked as asks;
 ghost use Rattle.pm_scan.specs.Meaning.{Knows};
 ghost use Rattle.pm_scan.specs.Scanner.{calls_left, next_call, Goes, IsReady, IsScanner, Shown};
@@ -54,6 +55,8 @@ impl ReaderPhase for Phase {
     ghost Folder = { ledgers.Stands };
 
     ghost knows = { Knows };
+
+    ghost tells = { IsTold };
 
     ghost Asked = { asks.AskedRows };
 

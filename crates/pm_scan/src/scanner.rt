@@ -89,5 +89,7 @@ impl LawfulPhase for Phase {
         joined_law();
         one_reading_law::<ManifestMeta>();
         files_law();
+        pm_read_table::causes_law();
+        pm_group_files::causes_law();
     }
 }

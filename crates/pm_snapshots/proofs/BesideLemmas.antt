@@ -1,5 +1,5 @@
 -- What the listing of snapshots makes known, whatever others do.
-use Rattle.std.proofs.Common.{◌≡◌, IfOk, Some, Result, Ok, Err, ap, sym, subst}
+use Rattle.std.proofs.Common.{◌≡◌, IfErr, IfOk, Some, Result, Ok, Err, ap, sym, subst}
 use Rattle.pm_values.specs.declared.refusal.Refusal.{Refusal}
 use Rattle.pm_store.specs.Files.{Files}
 use Rattle.pm_store.specs.Store.{StoreView}
@@ -7,7 +7,7 @@ use Rattle.pm_machine.specs.Moves.{IsKept, Moves}
 use Rattle.pm_schema.specs.declared.schema.TableSchema.{TableSchema}
 use Rattle.pm_model_history.specs.History.{IsTableOf}
 use Rattle.pm_model_folder.specs.Ledger.{Past, Stands}
-use Rattle.pm_read_schema.specs.Beside.{Learns}
+use Rattle.pm_read_schema.specs.Beside.{IsTold, Learns}
 use Rattle.pm_read_schema.proofs.BesideFacts.{PastStays, learns-moves, learns-none, learns-weaker}
 use Rattle.pm_snapshots.specs.AllCalls.{AreLinesIn, ListsBeside}
 use Rattle.pm_snapshots.specs.Lister.{IsDone, lines_of, schema_at}
@@ -22,6 +22,11 @@ first_learned m store = learns-none (Knows m) store
 pub more_learned : PastStays → (start m new : Phase) (first before after : StoreView) → Learns (Knows start) (Knows m) first before
     → Moves Stands IsKept (Knows m) (Knows new) before after → Learns (Knows start) (Knows new) first after
 more_learned past start m new first before after = learns-moves past (Knows start) (Knows m) (Knows new) first before after (knows_still m)
+
+pub refused_learned : PastStays → (start m : Phase) (refusal : Refusal) (first before after : StoreView) → Learns (Knows start) (Knows m) first before
+    → Moves Stands IsKept (Knows m) (IsTold refusal) before after → Learns (Knows start) (IsTold refusal) first after
+refused_learned past start m refusal first before after =
+    learns-moves past (Knows start) (Knows m) (IsTold refusal) first before after (knows_still m)
 
 one_some : (s t : TableSchema) → Some s ≡ Some t → s ≡ t
 one_some s t is = cc
@@ -47,3 +52,11 @@ listed_beside s m (Err e) before after is learned = tt
 listed_beside s m (Ok new) before after is learned =
     learns-weaker (λ f p. IsTableOf s p.history) (Knows m) (λ f p. AreLinesIn s (lines_of new) p) (λ f p. AreLinesIn s (lines_of new) p) before after
     (λ f p known. subst (λ (m : Phase). Knows m f p) (sym is) known) (λ f p stands known. known) (learned s (ap schema_at is))
+
+pub refused_beside : (s : TableSchema) (m : Phase) (made : Result Phase Refusal) (before after : StoreView) → m ≡ phases.List s
+    → IfErr made (λ refusal. Learns (Knows m) (IsTold refusal) before after)
+    → IfErr made (λ refusal. Learns (λ f p. IsTableOf s p.history) (IsTold refusal) before after)
+refused_beside s m (Ok new) before after is learned = tt
+refused_beside s m (Err refusal) before after is learned =
+    learns-weaker (λ f p. IsTableOf s p.history) (Knows m) (IsTold refusal) (IsTold refusal) before after
+    (λ f p known. subst (λ (m : Phase). Knows m f p) (sym is) known) (λ f p stands told. told) learned

@@ -1,10 +1,11 @@
 //! All calls of a lister whose schema was read, one after another.
 
-ghost use Rattle.std.specs.Prelude.{◌≡◌, ◌<◌, Some, IfOk};
+ghost use Rattle.std.specs.Prelude.{◌≡◌, ◌<◌, Some, IfErr, IfOk};
 ghost use Rattle.pm_machine.specs.Trace.{HasTrace};
+ghost use Rattle.pm_model_history.specs.History.{IsTableOf};
 ghost use Rattle.pm_schema.specs.declared.schema.TableSchema.{TableSchema};
 ghost use Rattle.pm_store.specs.Store.{StoreView, IsLater};
-ghost use Rattle.pm_read_schema.specs.Beside.{Learns};
+ghost use Rattle.pm_read_schema.specs.Beside.{IsTold, Learns};
 ghost use Rattle.pm_snapshots.specs.AllCalls.{AreLinesIn, DidList, ListsBeside, ListsTables};
 ghost use Rattle.pm_snapshots.specs.Lister.{calls_left, lines_of, schema_at, IsDone};
 ghost use Rattle.pm_snapshots.specs.Meaning.{Knows};
@@ -20,7 +21,7 @@ use std::alloc::Global;
 
 /// Lists the snapshots of the table whose schema was just read: all further calls of a lister, one after another. What
 /// it promises is said from whatever moment on that reading began. Whatever others do meanwhile, each line is that of
-/// the table's snapshot as it stood when it was committed.
+/// the table's snapshot as it stood when it was committed, and a refusal tells what is so at the call that shows it.
 pub fn list_snapshots<F: FileStore>(
     alloc: Global,
     schema: TableSchema,
@@ -32,6 +33,8 @@ pub fn list_snapshots<F: FileStore>(
     ensures history { (first : StoreView) → HasTrace (Has schema) first (F.seen store.old)
         → ListsTables schema first (F.seen store.new) result }
     ensures beside { IfOk result (λ m. ListsBeside schema (lines_of m) (F.seen store.old) (F.seen store.new)) }
+    ensures refused { IfErr result (λ refusal. Learns (λ f p. IsTableOf schema p.history) (IsTold refusal)
+        (F.seen store.old) (F.seen store.new)) }
     ensures later { IsLater (F.seen store.old) (F.seen store.new) }
 {
     make_calls(alloc, list_of(schema), store)
@@ -46,6 +49,8 @@ fn make_calls<F: FileStore>(alloc: Global, lister: Lister, store: &mut F) -> Res
         → HasTrace (DidList s result) first (F.seen store.new) }
     ensures beside { (s : TableSchema) → schema_at lister ≡ Some s → IfOk result (λ m. Learns (Knows lister)
         (λ f p. AreLinesIn s (lines_of m) p) (F.seen store.old) (F.seen store.new)) }
+    ensures refused { IfErr result (λ refusal. Learns (Knows lister) (IsTold refusal) (F.seen store.old)
+        (F.seen store.new)) }
     ensures later { IsLater (F.seen store.old) (F.seen store.new) }
 {
     past_law();

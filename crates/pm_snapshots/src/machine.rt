@@ -6,6 +6,7 @@ ghost use Rattle.pm_store.specs.Answers.{MayAnswer};
 ghost use Rattle.pm_store.specs.declared.answer.Answer.TheVariants as answers;
 ghost use Rattle.pm_values.specs.declared.refusal.Refusal.TheVariants as refusals;
 ghost use Rattle.pm_read_schema.specs.Reader as readers;
+ghost use Rattle.pm_read_schema.specs.Beside.{IsTold};
 ghost use Rattle.pm_snapshots.specs.Lister.{after_reader, calls_left, next_call, Goes, GoesToRead, IsDone, IsLister};
 ghost use Rattle.pm_snapshots.specs.Lister.{KeepsSchema, MayRefuse, Shown};
 ghost use Rattle.pm_snapshots.specs.Meaning.{Knows};
@@ -73,6 +74,8 @@ impl ReaderPhase for Phase {
     ghost Folder = { ledgers.Stands };
 
     ghost knows = { Knows };
+
+    ghost tells = { IsTold };
 
     ghost Asked = { Unit {0} };
 

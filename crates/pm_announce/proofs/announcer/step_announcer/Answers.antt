@@ -1,5 +1,7 @@
 use Rattle.pm_read_expiry.specs.declared.phase.Phase.TheVariants as phases
-use Rattle.pm_announce.proofs.Facts.{goes, has_call, moves_of, recounts, sound}
+use Rattle.pm_announce.specs.Meaning.{Knows}
+use Rattle.pm_announce.proofs.CauseLemmas.{truthful}
+use Rattle.pm_announce.proofs.Facts.{goes, has_call, moves_of, recounts, sound, told_of}
 use Rattle.pm_announce.proofs.announcer.step_announcer.Goals as goal
 
 pub make_step-requires-clause-sound : goal.make_step-requires-clause-sound
@@ -14,6 +16,9 @@ make_step-requires-clause-sound g c =
       names = c.listed_law.ensures;
     })
 
+pub make_step-requires-clause-truthful : goal.make_step-requires-clause-truthful
+make_step-requires-clause-truthful g c = truthful
+
 pub make_step-requires-clause-recounts : goal.make_step-requires-clause-recounts
 make_step-requires-clause-recounts g c = recounts
 
@@ -26,4 +31,9 @@ make_step-requires-clause-has_call g c = λ m is. has_call m
 pub returns-clause-moves : goal.returns-clause-moves
 returns-clause-moves g c =
     let seen = g.F.FileStore.seen in
-    λ me. moves_of me c.args.announcer.now c.make_step.new.machine (seen c.args.store.now) (seen c.make_step.new.store) c.make_step.ensures.moves
+    λ me. moves_of me c.args.announcer.now (Knows c.make_step.new.machine) (seen c.args.store.now) (seen c.make_step.new.store) c.make_step.ensures.moves
+
+pub returns-clause-tells : goal.returns-clause-tells
+returns-clause-tells g c =
+    let seen = g.F.FileStore.seen in
+    told_of c.args.announcer.now c.make_step.result (seen c.args.store.now) (seen c.make_step.new.store) c.make_step.ensures.tells

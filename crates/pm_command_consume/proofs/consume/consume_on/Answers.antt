@@ -25,7 +25,8 @@ returns-in_err-latest-clause-beside g c = λ me full table text out_first first 
     let store = g.F.FileStore.seen c.args.store.now in
     rw (p.1, p.2)
     (listing_stops c.pieces_law.ensures.first me c.args.schema.now c.args.consuming.now c.args.place full table text out_first out out first store opens opened
-    c.past_law.ensures c.in_err-latest.field-0.0 (g.F.FileStore.seen c.read_latest.new.store) c.in_err-latest.ensures.trace)
+    c.in_err-latest.field-0.0 (g.F.FileStore.seen c.read_latest.new.store) c.in_err-latest.ensures.trace
+    c.in_err-latest.ensures.refused)
 
 pub returns-clause-beside : goal.returns-clause-beside
 returns-clause-beside g c = λ me full table text out_first first opens opened.

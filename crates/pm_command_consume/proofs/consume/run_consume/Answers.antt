@@ -34,8 +34,8 @@ pub returns-in_err-schema-clause-beside : goal.returns-in_err-schema-clause-besi
 returns-in_err-schema-clause-beside g c = λ me.
     let p = err_from_is_err_and c.from_residual.result c.from_residual.ensures.1 in
     rw (p.1, p.2)
-    (schema_refused c.past_law.ensures me c.args.consuming.now c.in_err-schema.field-0.0 (g.W.Sink.seen c.args.out.now) (g.F.FileStore.seen c.args.store.now)
-    (g.F.FileStore.seen c.followed_schema.new.store) c.in_err-schema.ensures.trace)
+    (schema_refused me c.args.consuming.now c.in_err-schema.field-0.0 (g.W.Sink.seen c.args.out.now) (g.F.FileStore.seen c.args.store.now)
+    (g.F.FileStore.seen c.followed_schema.new.store) (c.in_err-schema.ensures.refused c.args.consuming.now.from))
 
 pub returns-clause-beside : goal.returns-clause-beside
 returns-clause-beside g c = λ me.

@@ -29,9 +29,9 @@ pub returns-in_err-print_frame-clause-beside : goal.returns-in_err-print_frame-c
 returns-in_err-print_frame-clause-beside g c = λ me log.
     let p = err_from_is_err_and c.from_residual.result c.from_residual.ensures.1 in
     rw (p.1, p.2)
-    (frame_refused me c.args.schema.now c.args.consuming.now c.past_law.ensures c.frames_law.ensures.known c.args.place c.in_err-print_frame.field-0.0
+    (frame_refused me c.args.schema.now c.args.consuming.now c.frames_law.ensures.known c.args.place c.in_err-print_frame.field-0.0
     (g.W.Sink.seen c.args.out.now) (g.W.Sink.seen c.print_frame.new.out) (g.F.FileStore.seen c.args.store.now) (g.F.FileStore.seen c.print_frame.new.store)
-    c.requires.within c.in_err-print_frame.ensures.beside)
+    c.requires.within c.in_err-print_frame.ensures.prints c.in_err-print_frame.ensures.beside)
 
 pub returns-in_err-bytes-clause-beside : goal.returns-in_err-bytes-clause-beside
 returns-in_err-bytes-clause-beside g c = λ me log.
@@ -41,7 +41,7 @@ returns-in_err-bytes-clause-beside g c = λ me log.
     c.in_err-bytes.field-0.0 (g.W.Sink.seen c.args.out.now) (g.W.Sink.seen c.print_frame.new.out) (g.F.FileStore.seen c.args.store.now)
     (g.F.FileStore.seen c.print_frame.new.store) (g.F.FileStore.seen c.move_consumer.new.store) log c.requires.within
     (record { plain = c.requires.asked.plain; reads = c.requires.place.reads; within = c.requires.within }) c.in_ok-print_frame.ensures.beside
-    (c.in_err-bytes.ensures.beside me))
+    (c.in_err-bytes.ensures.beside me) c.in_err-bytes.ensures.trace)
 
 pub returns-clause-beside : goal.returns-clause-beside
 returns-clause-beside g c = λ me log.

@@ -21,7 +21,8 @@ pub returns-in_err-schema-clause-beside : goal.returns-in_err-schema-clause-besi
 returns-in_err-schema-clause-beside g c =
     let p = err_from_is_err_and c.from_residual.result c.from_residual.ensures.1 in
     rw (p.1, p.2)
-    (read_beside c.in_err-schema.field-0.0 (g.F.FileStore.seen c.args.store.now) (g.F.FileStore.seen c.read_table_schema.new.store) c.in_err-schema.ensures.trace)
+    (read_beside c.in_err-schema.field-0.0 (g.F.FileStore.seen c.args.store.now) (g.F.FileStore.seen c.read_table_schema.new.store) c.in_err-schema.ensures.trace
+    c.in_err-schema.ensures.refused)
 
 pub returns-in_err-schema-clause-history : goal.returns-in_err-schema-clause-history
 returns-in_err-schema-clause-history g c =
@@ -77,7 +78,7 @@ returns-clause-history g c =
     let asked = asked_is c.args.start.now c.args.asked s c.over-keep.result _ c.over-keep.ensures (to_z-of_z fits) in
     let laws : Laws = record {
       all = c.all_calls_law.ensures;
-      causes = c.causes_law.ensures;
+      causes = c.alone_causes_law.ensures;
       image = c.image_law.ensures;
       settled = c.settled_law.ensures.all;
       unnamed = c.unnamed_law.ensures.here;

@@ -21,8 +21,9 @@ pub returns-in_err-latest-clause-beside : goal.returns-in_err-latest-clause-besi
 returns-in_err-latest-clause-beside g c = λ from full text out_first first opens begun.
     let p = err_from_is_err_and c.from_residual.result c.from_residual.ensures.1 in
     rw (p.1, p.2)
-    (listing_beside c.past_law.ensures c.pieces_law.ensures.first c.args.schema.now from full c.args.start text c.in_err-latest.field-0.0 out_first (g.W.Sink.seen c.args.out.now) first
-    (g.F.FileStore.seen c.args.store.now) (g.F.FileStore.seen c.read_latest.new.store) opens begun c.in_err-latest.ensures.trace)
+    (listing_beside c.pieces_law.ensures.first c.args.schema.now from full c.args.start text c.in_err-latest.field-0.0 out_first (g.W.Sink.seen c.args.out.now) first
+    (g.F.FileStore.seen c.args.store.now) (g.F.FileStore.seen c.read_latest.new.store) opens begun c.in_err-latest.ensures.trace
+    c.in_err-latest.ensures.refused)
 
 pub returns-clause-beside : goal.returns-clause-beside
 returns-clause-beside g c = λ from full text out_first first opens begun.

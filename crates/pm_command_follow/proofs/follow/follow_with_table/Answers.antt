@@ -21,7 +21,7 @@ pub returns-in_err-print_table-clause-beside : goal.returns-in_err-print_table-c
 returns-in_err-print_table-clause-beside g c = λ from first starts learned.
     let p = err_from_is_err_and c.from_residual.result c.from_residual.ensures.1 in
     rw (p.1, p.2)
-    (table_beside c.pieces_law.ensures.first c.args.schema.now from c.args.start c.in_err-print_table.field-0.0 (g.W.Sink.seen c.args.out.now)
+    (table_beside c.past_law.ensures c.pieces_law.ensures.first c.args.schema.now from c.args.start c.in_err-print_table.field-0.0 (g.W.Sink.seen c.args.out.now)
     (g.W.Sink.seen c.print_table.new.out) first (g.F.FileStore.seen c.args.store.now) (g.F.FileStore.seen c.print_table.new.store) starts learned
     c.in_err-print_table.ensures.prints c.in_err-print_table.ensures.beside)
 

@@ -11,7 +11,7 @@ returns-in_err-schema-clause-followed g c =
     rw (p.1, p.2) (
       schema_shown c.args.from c.args.full c.in_err-schema.field-0.0 (g.W.Sink.seen c.args.out.now) (g.F.FileStore.seen c.args.store.now)
           (g.F.FileStore.seen c.followed_schema.new.store) c.in_err-schema.ensures.trace,
-      refuses c.in_err-schema.field-0.0 refl,
+      refuses c.in_err-schema.field-0.0 refl (c.in_err-schema.ensures.refused c.args.from),
     )
 
 pub returns-in_err-schema-clause-history : goal.returns-in_err-schema-clause-history
@@ -22,7 +22,7 @@ returns-in_err-schema-clause-history g c =
     (g.F.FileStore.seen c.followed_schema.new.store) _ (
       schema_shown c.args.from c.args.full c.in_err-schema.field-0.0 (g.W.Sink.seen c.args.out.now) (g.F.FileStore.seen c.args.store.now)
           (g.F.FileStore.seen c.followed_schema.new.store) c.in_err-schema.ensures.trace,
-      refuses c.in_err-schema.field-0.0 refl,
+      refuses c.in_err-schema.field-0.0 refl (c.in_err-schema.ensures.refused c.args.from),
     ))
 
 pub returns-clause-followed : goal.returns-clause-followed

@@ -55,7 +55,7 @@ returns-in_err-print_frame-clause-beside g c =
     let so = c.loop-id.invariant in
     let p = err_from_is_err_and c.from_residual.result c.from_residual.ensures.1 in
     rw (p.1, p.2)
-    (frame_stopped c.past_law.ensures c.frames_law.ensures.known c.frames_law.ensures.later c.frames_law.ensures.next c.args.schema.now c.args.start c.args.latest c.loop-id.id
+    (frame_stopped c.frames_law.ensures.known c.frames_law.ensures.later c.frames_law.ensures.next c.args.schema.now c.args.start c.args.latest c.loop-id.id
     (sink c.args.out.now) (sink c.loop-id.out) (sink c.print_frame.new.out) (seen c.args.store.now) (seen c.loop-id.store) (seen c.print_frame.new.store)
     c.in_err-print_frame.field-0.0 so.low (omega arith) c.requires.latest so.learned c.in_err-print_frame.ensures.beside)
 

@@ -1,9 +1,9 @@
-use Rattle.std.proofs.Common.{Err}
 use Rattle.std.specs.Result.{result_err}
 use Rattle.std.proofs.lemmas.Result.{err_from_is_err_and}
+use Rattle.pm_scan.specs.Beside.{TellsBeside}
 use Rattle.pm_command_follow.specs.Follow.{DidTable}
 use Rattle.pm_command_follow.specs.Pieces.{LearnsStart}
-use Rattle.pm_command_follow.proofs.KnownLemmas.{any_trace, piece_printed, piece_refused}
+use Rattle.pm_command_follow.proofs.KnownLemmas.{piece_printed, piece_refused}
 use Rattle.pm_command_follow.proofs.PieceLemmas.{printed, unprinted}
 use Rattle.pm_command_follow.proofs.pieces.print_table.Goals as goal
 
@@ -24,13 +24,11 @@ pub returns-in_err-text-clause-beside : goal.returns-in_err-text-clause-beside
 returns-in_err-text-clause-beside g c =
     let p = err_from_is_err_and c.from_residual.result c.from_residual.ensures.1 in
     rw (p.1, p.2)
-    (piece_refused (LearnsStart c.args.schema.now c.args.start) (λ own. Unit {0}) c.in_err-text.field-0.0 (g.W.Sink.seen c.args.out.now)
-    (g.F.FileStore.seen c.args.store.now) (g.F.FileStore.seen c.read_table.new.store)
-    (any_trace (DidTable c.args.schema.now c.args.start (Err c.in_err-text.field-0.0)) (g.F.FileStore.seen c.args.store.now) (g.F.FileStore.seen c.read_table.new.store)
-    c.in_err-text.ensures.trace))
+    (piece_refused (LearnsStart c.args.schema.now c.args.start) (TellsBeside c.args.schema.now) c.in_err-text.field-0.0 (g.W.Sink.seen c.args.out.now)
+    (g.F.FileStore.seen c.args.store.now) (g.F.FileStore.seen c.read_table.new.store) c.in_err-text.ensures.refused)
 
 pub returns-clause-beside : goal.returns-clause-beside
 returns-clause-beside g c =
-    piece_printed (LearnsStart c.args.schema.now c.args.start) (λ own. Unit {0}) c.in_ok-text.text.items c.deref.result.now (g.W.Sink.seen c.args.out.now) (g.W.Sink.seen c.print.new.out)
+    piece_printed (LearnsStart c.args.schema.now c.args.start) (TellsBeside c.args.schema.now) c.in_ok-text.text.items c.deref.result.now (g.W.Sink.seen c.args.out.now) (g.W.Sink.seen c.print.new.out)
     (g.F.FileStore.seen c.args.store.now) (g.F.FileStore.seen c.read_table.new.store) (result_err c.print.result) c.deref.ensures.value
     c.in_ok-text.ensures.beside c.print.ensures.prints

@@ -8,7 +8,8 @@ returns-in_err-text-clause-scanned g c =
     let p = err_from_is_err_and c.from_residual.result c.from_residual.ensures.1 in
     rw (p.1, p.2)
     (refused_scanned c.args.snapshot c.in_err-text.field-0.0 (g.W.Sink.seen c.args.out.now) (g.F.FileStore.seen c.args.store.now)
-    (g.F.FileStore.seen c.scan_built.new.store) c.in_err-text.ensures.trace c.in_err-text.ensures.history)
+    (g.F.FileStore.seen c.scan_built.new.store) c.in_err-text.ensures.trace c.in_err-text.ensures.beside
+    c.in_err-text.ensures.history)
 
 pub returns-clause-scanned : goal.returns-clause-scanned
 returns-clause-scanned g c =

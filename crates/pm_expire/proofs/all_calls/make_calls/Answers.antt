@@ -1,5 +1,4 @@
-use Rattle.std.proofs.Common.{rules, Ok, Err, ◌≡◌}
-use Rattle.pm_expire.specs.Expirer.{Reaches}
+use Rattle.std.proofs.Common.{rules, ◌≡◌}
 use Rattle.pm_expire.specs.declared.expirer.ExpireStep.TheVariants as steps
 use Rattle.pm_expire.specs.declared.phase.Phase.TheVariants as phases
 use Rattle.pm_expire.proofs.BesideLemmas.{CallLaws, brings-more, brought-done, brought-none, brought-refused, came-done, came-further, came-refused, followed-from, followed-none, followed-on}
@@ -66,9 +65,8 @@ pub returns-in-Err-clause-beside : goal.returns-in-Err-clause-beside
 returns-in-Err-clause-beside g c = λ me.
     let seen = g.F.FileStore.seen in
     let laws : CallLaws = record { past = c.past_law.ensures; known = c.known_law.ensures } in
-    brought-refused me c.args.expirer c.step_expirer.new.expirer c.in-Err.refusal (seen c.args.store.now) (seen c.step_expirer.new.store)
-    (λ one. brings-more laws one c.args.expirer c.loop-first.expirer c.step_expirer.new.expirer (seen c.args.store.now) (seen c.loop-first.store)
-    (seen c.step_expirer.new.store) (c.loop-first.invariant.brought one) c.step_expirer.ensures.moves)
+    brought-refused laws me c.args.expirer c.loop-first.expirer c.in-Err.refusal (seen c.args.store.now) (seen c.loop-first.store)
+    (seen c.step_expirer.new.store) (c.loop-first.invariant.brought me) c.in-Err.ensures.tells
 
 pub returns-in-Err-clause-alone : goal.returns-in-Err-clause-alone
 returns-in-Err-clause-alone g c =

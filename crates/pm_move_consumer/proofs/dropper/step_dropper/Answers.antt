@@ -1,3 +1,4 @@
+use Rattle.pm_machine.proofs.PhaseFacts.{truthful_of_none}
 use Rattle.pm_model_folder.specs.Ledger.{Stands}
 use Rattle.pm_move_consumer.specs.DropperMeaning.{Knows, MayDrop}
 use Rattle.pm_move_consumer.proofs.DropperFacts.{goes, has_call, recounts, sound}
@@ -6,6 +7,9 @@ use Rattle.pm_move_consumer.proofs.dropper.step_dropper.Goals as goal
 
 pub make_step-requires-clause-sound : goal.make_step-requires-clause-sound
 make_step-requires-clause-sound g c = sound c.steps_law.ensures.consumer
+
+pub make_step-requires-clause-truthful : goal.make_step-requires-clause-truthful
+make_step-requires-clause-truthful g c = truthful_of_none _ _ _ _ _ _
 
 pub make_step-requires-clause-recounts : goal.make_step-requires-clause-recounts
 make_step-requires-clause-recounts g c = recounts

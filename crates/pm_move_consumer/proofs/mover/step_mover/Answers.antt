@@ -1,3 +1,4 @@
+use Rattle.pm_machine.proofs.PhaseFacts.{truthful_of_none}
 use Rattle.pm_model_folder.specs.Ledger.{Stands}
 use Rattle.pm_move_consumer.specs.MoverMeaning.{Knows, MayMovePast}
 use Rattle.pm_move_consumer.proofs.MoverFacts.{goes, has_call, recounts, sound}
@@ -7,6 +8,9 @@ use Rattle.pm_move_consumer.proofs.mover.step_mover.Goals as goal
 pub make_step-requires-clause-sound : goal.make_step-requires-clause-sound
 make_step-requires-clause-sound g c =
     sound (record { steps = c.steps_law.ensures.consumer; again = c.consumer_law.ensures.again; next = c.consumer_law.ensures.next })
+
+pub make_step-requires-clause-truthful : goal.make_step-requires-clause-truthful
+make_step-requires-clause-truthful g c = truthful_of_none _ _ _ _ _ _
 
 pub make_step-requires-clause-recounts : goal.make_step-requires-clause-recounts
 make_step-requires-clause-recounts g c = recounts

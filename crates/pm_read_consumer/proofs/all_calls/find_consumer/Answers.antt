@@ -2,7 +2,7 @@ use Rattle.std.proofs.Common.{subst, ◌<◌}
 use Rattle.pm_read_consumer.specs.Reader.{calls_left}
 use Rattle.pm_read_consumer.specs.declared.phase.Phase.{Phase}
 use Rattle.pm_read_consumer.proofs.AllCallsLemmas.{now_ready, was_found, was_refused, was_stopped}
-use Rattle.pm_read_consumer.proofs.BesideLemmas.{found-beside, refused-beside}
+use Rattle.pm_read_consumer.proofs.BesideLemmas.{found-beside, none-beside, refused-beside}
 use Rattle.pm_read_consumer.proofs.all_calls.find_consumer.Goals as goal
 
 pub into_found-requires : goal.into_found-requires
@@ -17,6 +17,9 @@ pub returns-in-Err-clause-history : goal.returns-in-Err-clause-history
 returns-in-Err-clause-history g c =
     let seen = g.F.FileStore.seen c.args.store.now in
     c.all_calls_law.ensures c.args.name.now _ seen seen (was_stopped c.args.name.now seen)
+
+pub returns-in-Err-clause-beside : goal.returns-in-Err-clause-beside
+returns-in-Err-clause-beside g c = none-beside c.args.name.now (g.F.FileStore.seen c.args.store.now)
 
 pub returns-in-Ok-take_step-clause-trace : goal.returns-in-Ok-take_step-clause-trace
 returns-in-Ok-take_step-clause-trace g c =
@@ -54,5 +57,5 @@ returns-in-Err-take_step-clause-history g c =
 pub returns-in-Err-take_step-clause-beside : goal.returns-in-Err-take_step-clause-beside
 returns-in-Err-take_step-clause-beside g c =
     let seen = g.F.FileStore.seen in
-    refused-beside c.past_law.ensures c.args.name.now c.in-Err-take_step.refusal c.in-Ok.reader c.take_step.new.reader (seen c.args.store.now)
-    (seen c.take_step.new.store) c.in-Ok.ensures (c.in-Err-take_step.ensures.acts c.args.name.now)
+    refused-beside c.past_law.ensures c.args.name.now c.in-Err-take_step.refusal (seen c.args.store.now) (seen c.take_step.new.store)
+    c.in-Err-take_step.ensures.tells

@@ -1,7 +1,7 @@
 use Rattle.std.proofs.Common.{◌≡◌, Err, rules}
 use Rattle.pm_values.specs.declared.refusal.Refusal.TheVariants as refusals
 use Rattle.pm_read_frame.specs.AllCalls.{text_in}
-use Rattle.pm_read_frame.proofs.BesideLemmas.{learned-by}
+use Rattle.pm_read_frame.proofs.BesideLemmas.{learned-by, none-told, told-by}
 use Rattle.pm_read_frame.proofs.AllCallsLemmas.{first_left, frame_made, none_made}
 use Rattle.pm_read_frame.proofs.all_calls.read_frame.Goals as goal
 
@@ -38,3 +38,13 @@ returns-in-Ok-clause-beside g c =
     let same : c.in-Ok.schema ≡ c.args.schema.now = search rules in
     learned-by c.args.schema.now c.in-Ok.schema c.args.id c.frame_at.result c.make_calls.result (seen c.args.store.now) (seen c.make_calls.new.store) same
     c.frame_at.ensures c.requires.after_origin c.make_calls.ensures.beside
+
+pub returns-in-Ok-clause-refused : goal.returns-in-Ok-clause-refused
+returns-in-Ok-clause-refused g c =
+    let seen = g.F.FileStore.seen in
+    let same : c.in-Ok.schema ≡ c.args.schema.now = search rules in
+    told-by c.args.schema.now c.in-Ok.schema c.args.id c.frame_at.result c.make_calls.result (seen c.args.store.now) (seen c.make_calls.new.store) same
+    c.frame_at.ensures c.requires.after_origin c.make_calls.ensures.refused
+
+pub returns-in-Err-clause-refused : goal.returns-in-Err-clause-refused
+returns-in-Err-clause-refused g c = none-told c.args.schema.now c.args.id (g.F.FileStore.seen c.args.store.now)

@@ -1,7 +1,7 @@
 use Rattle.std.proofs.Common.{rules}
 use Rattle.pm_store.proofs.StepLaws.{IsLater-refl}
 use Rattle.pm_read_schema.proofs.AllCallsLemmas.{call_left, was_refused, went_further}
-use Rattle.pm_read_schema.proofs.BesideLemmas.{first-learned, last-learned, more-learned}
+use Rattle.pm_read_schema.proofs.BesideLemmas.{first-learned, last-learned, more-learned, refused-learned}
 use Rattle.pm_read_schema.proofs.all_calls.make_calls.Goals as goal
 
 pub loop-alloc-init : goal.loop-alloc-init
@@ -31,6 +31,12 @@ returns-in-Err-clause-trace g c =
     let seen = g.F.FileStore.seen in
     was_refused c.loop-alloc.reader c.take_step.new.reader (seen c.args.store.now) (seen c.loop-alloc.store) (seen c.take_step.new.store)
     c.in-Err.refusal c.loop-alloc.invariant.trace (c.in-Err.ensures.acts tt) c.take_step.ensures.later
+
+pub returns-in-Err-clause-refused : goal.returns-in-Err-clause-refused
+returns-in-Err-clause-refused g c =
+    let seen = g.F.FileStore.seen in
+    refused-learned c.past_law.ensures c.loop-alloc.reader c.in-Err.refusal (seen c.args.store.now) (seen c.loop-alloc.store) (seen c.take_step.new.store)
+    c.loop-alloc.invariant.learned c.in-Err.ensures.tells
 
 pub returns-clause-beside : goal.returns-clause-beside
 returns-clause-beside g c =

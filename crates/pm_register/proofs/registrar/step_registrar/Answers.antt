@@ -1,3 +1,4 @@
+use Rattle.pm_machine.proofs.PhaseFacts.{truthful_of_none}
 use Rattle.pm_register.proofs.Facts.{goes, has_call, moves_of, recounts, sound}
 use Rattle.pm_register.proofs.registrar.step_registrar.Goals as goal
 
@@ -8,6 +9,9 @@ make_step-requires-clause-sound g c =
       stays = c.past_law.ensures;
       steps = c.steps_law.ensures.consumer;
     })
+
+pub make_step-requires-clause-truthful : goal.make_step-requires-clause-truthful
+make_step-requires-clause-truthful g c = truthful_of_none _ _ _ _ _ _
 
 pub make_step-requires-clause-recounts : goal.make_step-requires-clause-recounts
 make_step-requires-clause-recounts g c = recounts

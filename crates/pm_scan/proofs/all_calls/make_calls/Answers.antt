@@ -1,6 +1,6 @@
 use Rattle.std.proofs.Common.{rules}
 use Rattle.pm_store.proofs.StepLaws.{IsLater-refl}
-use Rattle.pm_scan.proofs.BesideLemmas.{first-learned, last-learned, more-learned}
+use Rattle.pm_scan.proofs.BesideLemmas.{first-learned, last-learned, more-learned, refused-learned}
 use Rattle.pm_scan.proofs.AllCallsLemmas.{call_left, was_done, was_refused, went_further}
 use Rattle.pm_scan.proofs.all_calls.make_calls.Goals as goal
 
@@ -31,6 +31,12 @@ returns-in-Err-clause-trace g c = λ a first begun.
     let seen = g.F.FileStore.seen in
     was_refused a c.loop-alloc.scanner c.take_step.new.reader first (seen c.loop-alloc.store) (seen c.take_step.new.store) c.in-Err.refusal
     (c.loop-alloc.invariant.trace a first begun) c.in-Err.ensures.acts c.take_step.ensures.later
+
+pub returns-in-Err-clause-refused : goal.returns-in-Err-clause-refused
+returns-in-Err-clause-refused g c =
+    let seen = g.F.FileStore.seen in
+    refused-learned c.past_law.ensures c.kept_law.ensures.table c.args.scanner c.loop-alloc.scanner c.in-Err.refusal (seen c.args.store.now) (seen c.loop-alloc.store)
+    (seen c.take_step.new.store) c.loop-alloc.invariant.learned c.in-Err.ensures.tells
 
 pub returns-clause-trace : goal.returns-clause-trace
 returns-clause-trace g c = λ a first begun.

@@ -5,7 +5,7 @@ use Rattle.pm_scan.specs.Asked.{asked_at}
 use Rattle.pm_scan.specs.Trace.{Did}
 use Rattle.pm_scan.specs.declared.phase.Phase.{Phase}
 use Rattle.pm_scan.specs.declared.rows.Rows.TheVariants as shown
-use Rattle.pm_scan.proofs.BesideLemmas.{learned-by}
+use Rattle.pm_scan.proofs.BesideLemmas.{learned-by, refused-by}
 use Rattle.pm_scan.proofs.AllCallsLemmas.{begins, begun, first_left, went_on}
 use Rattle.pm_scan.proofs.all_calls.scan_table.Goals as goal
 
@@ -44,3 +44,9 @@ returns-clause-beside g c =
     let own = subst (λ (m : Phase). HasTrace (Did a m) (seen c.args.store.now) (seen c.args.store.now)) (sym c.scanner_of.ensures) (begun a (seen c.args.store.now) (begins c.args.at)) in
     learned-by shown.All c.args.schema c.args.at c.scanner_of.result c.make_calls.result (seen c.args.store.now) (seen c.make_calls.new.store)
     c.scanner_of.ensures own c.make_calls.ensures.beside
+
+pub returns-clause-refused : goal.returns-clause-refused
+returns-clause-refused g c =
+    let seen = g.F.FileStore.seen in
+    refused-by shown.All c.args.schema c.args.at c.scanner_of.result c.make_calls.result (seen c.args.store.now) (seen c.make_calls.new.store)
+    c.scanner_of.ensures c.make_calls.ensures.refused

@@ -1,8 +1,12 @@
+use Rattle.pm_consumers.proofs.CauseLemmas.{truthful}
 use Rattle.pm_consumers.proofs.Facts.{sound, recounts, goes_ahead, has_call}
 use Rattle.pm_consumers.proofs.lister.PhaseLawfulPhase.laws.Goals as goal
 
 pub returns-clause-sound : goal.returns-clause-sound
 returns-clause-sound c = sound
+
+pub returns-clause-truthful : goal.returns-clause-truthful
+returns-clause-truthful c = truthful
 
 pub returns-clause-recounts : goal.returns-clause-recounts
 returns-clause-recounts c = λ asked. recounts

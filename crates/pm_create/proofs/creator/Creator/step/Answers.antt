@@ -1,4 +1,5 @@
 use Rattle.std.proofs.Common.{ap}
+use Rattle.pm_machine.proofs.PhaseFacts.{truthful_of_none}
 use Rattle.pm_create.specs.Creator.{actor_of, new_table, CreatorView}
 use Rattle.pm_create.specs.Meaning.{CreatorMoved}
 use Rattle.pm_create.proofs.Facts.{sound, recounts, goes, has_call, moves_of, still_of}
@@ -7,6 +8,9 @@ use Rattle.pm_create.proofs.creator.Creator.step.Goals as goal
 pub make_step-requires-clause-sound : goal.make_step-requires-clause-sound
 make_step-requires-clause-sound g c =
     sound (λ path text s reads. c.declared_law.ensures.file path text s ((c.schema_law.ensures.exact path text s).0 reads))
+
+pub make_step-requires-clause-truthful : goal.make_step-requires-clause-truthful
+make_step-requires-clause-truthful g c = truthful_of_none _ _ _ _ _ _
 
 pub make_step-requires-clause-recounts : goal.make_step-requires-clause-recounts
 make_step-requires-clause-recounts g c = recounts

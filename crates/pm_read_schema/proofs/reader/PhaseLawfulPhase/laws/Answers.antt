@@ -1,8 +1,11 @@
-use Rattle.pm_read_schema.proofs.Facts.{sound, recounts, goes_ahead, has_call}
+use Rattle.pm_read_schema.proofs.Facts.{sound, truthful, recounts, goes_ahead, has_call}
 use Rattle.pm_read_schema.proofs.reader.PhaseLawfulPhase.laws.Goals as goal
 
 pub returns-clause-sound : goal.returns-clause-sound
 returns-clause-sound c = sound
+
+pub returns-clause-truthful : goal.returns-clause-truthful
+returns-clause-truthful c = truthful
 
 pub returns-clause-recounts : goal.returns-clause-recounts
 returns-clause-recounts c = λ asked. recounts

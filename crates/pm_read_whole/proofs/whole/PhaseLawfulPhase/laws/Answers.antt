@@ -1,8 +1,12 @@
+use Rattle.pm_read_whole.proofs.CauseLemmas.{truthful}
 use Rattle.pm_read_whole.proofs.Facts.{sound, recounts, goes, has_call}
 use Rattle.pm_read_whole.proofs.whole.PhaseLawfulPhase.laws.Goals as goal
 
 pub returns-clause-sound : goal.returns-clause-sound
 returns-clause-sound c = sound (c.joined_law.ensures.left, c.joined_law.ensures.order) c.one_reading_law.ensures
+
+pub returns-clause-truthful : goal.returns-clause-truthful
+returns-clause-truthful c = truthful c.causes_law.ensures c.log_causes_law.ensures
 
 pub returns-clause-recounts : goal.returns-clause-recounts
 returns-clause-recounts c = recounts (c.joined_law.ensures.left, c.joined_law.ensures.order)

@@ -1,3 +1,4 @@
+use Rattle.pm_scan.proofs.CauseLemmas.{truthful}
 use Rattle.pm_scan.proofs.Facts.{FileLaws, sound, recounts, goes, has_call}
 use Rattle.pm_scan.proofs.scanner.PhaseLawfulPhase.laws.Goals as goal
 
@@ -5,6 +6,9 @@ pub returns-clause-sound : goal.returns-clause-sound
 returns-clause-sound c =
     let files : FileLaws = record { chosen = c.files_law.ensures.chosen; all = c.files_law.ensures.all } in
     sound (c.joined_law.ensures.left, c.joined_law.ensures.order) c.one_reading_law.ensures files
+
+pub returns-clause-truthful : goal.returns-clause-truthful
+returns-clause-truthful c = truthful c.causes_law.ensures c.causes_law-2.ensures
 
 pub returns-clause-recounts : goal.returns-clause-recounts
 returns-clause-recounts c = recounts (c.joined_law.ensures.left, c.joined_law.ensures.order)

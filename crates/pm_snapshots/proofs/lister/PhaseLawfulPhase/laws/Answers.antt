@@ -1,8 +1,12 @@
+use Rattle.pm_snapshots.proofs.CauseLemmas.{truthful}
 use Rattle.pm_snapshots.proofs.Facts.{sound, recounts, goes_ahead, keeps, has_call}
 use Rattle.pm_snapshots.proofs.lister.PhaseLawfulPhase.laws.Goals as goal
 
 pub returns-clause-sound : goal.returns-clause-sound
 returns-clause-sound c = sound
+
+pub returns-clause-truthful : goal.returns-clause-truthful
+returns-clause-truthful c = truthful
 
 pub returns-clause-recounts : goal.returns-clause-recounts
 returns-clause-recounts c = λ asked. recounts
