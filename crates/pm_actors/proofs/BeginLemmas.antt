@@ -28,6 +28,9 @@ use Rattle.pm_commit.specs.Meaning.{KnowsOwn}
 use Rattle.pm_commit.specs.Own as owner
 use Rattle.pm_commit.specs.declared.phase.Phase as committing
 use Rattle.pm_commit.proofs.OwnLemmas.{append-planned}
+use Rattle.pm_compactor.specs.Compactor.{actor_of as actor_named}
+use Rattle.pm_compactor.specs.Meaning as compactor
+use Rattle.pm_compactor.specs.declared.phase.Phase as compacting
 use Rattle.pm_register.specs.Meaning as registrar
 use Rattle.pm_register.specs.Registrar.{Registering}
 use Rattle.pm_register.specs.declared.phase.Phase as registering
@@ -39,7 +42,7 @@ use Rattle.pm_move_consumer.specs.declared.drop_phase.DropPhase as dropping
 use Rattle.pm_move_consumer.specs.declared.move_phase.MovePhase as moving
 use Rattle.pm_expire.specs.Meaning as expirer
 use Rattle.pm_expire.specs.declared.phase.Phase as expiring
-use Rattle.pm_actors.specs.World.{AllKnow, Begins, BeginsCommit, BeginsDrop, BeginsExpire, BeginsFollow, BeginsMove, BeginsRegister, Followed, IsWorld, KeepsActor, Knows, KnowsFollowed, MayBegin, MayFollow, MayJoin, Worker, commits, creates, drops, expires, finds, follows, lists, moves, registers, scans, waits}
+use Rattle.pm_actors.specs.World.{AllKnow, Begins, BeginsCommit, BeginsCompact, BeginsDrop, BeginsExpire, BeginsFollow, BeginsMove, BeginsRegister, Followed, IsWorld, KeepsActor, Knows, KnowsFollowed, MayBegin, MayFollow, MayJoin, Worker, commits, compacts, creates, drops, expires, finds, follows, lists, moves, registers, scans, waits}
 use Rattle.pm_actors.proofs.WorldLemmas.{replaced}
 
 -- what the law of a folder that is found says
@@ -70,6 +73,12 @@ module _ (f : Files) (p : Past) where
         subst (λ (m : committing.Phase). commit.HasGiven m f p) (sym begins.is)
             ([], (append-planned begins.begun.intent me begins.begun.author.base [] p appends refl, inr tt)),
       )
+
+  compact_begins : (m : compacting.Phase) → BeginsCompact (λ me. HasNamedNone me p) p.history m → compactor.Knows m f p
+  compact_begins m begins = (
+    begins.is_compactor,
+    subst (λ (m : compacting.Phase). compactor.KnowsIn m f p) (sym begins.is) (begins.table, begins.may, begins.unnamed),
+  )
 
   follow_begins : (x : Followed) (m : following.Phase) → BeginsFollow p.history x m → KnowsFollowed x p × frame_reader.Knows m f p
   follow_begins x m begins =
@@ -114,6 +123,7 @@ module _ (f : Files) (p : Past) where
   joined (finds me s m) (is, table) = (table, subst (λ (m : finding.Phase). latest_reader.Knows m f p) (sym is) tt)
   joined (follows me x m) begins = follow_begins x m begins
   joined (commits e m) begins = commit_begins e m begins
+  joined (compacts m) begins = compact_begins m begins
   joined (registers me r m) begins = register_begins me r m begins
   joined (moves m phase) begins = move_begins m phase begins
   joined (drops d phase) begins = drop_begins d phase begins
@@ -142,6 +152,15 @@ begins_by P Q h more (commits e m) may = record {
   no_base = may.no_base;
   none_lost = may.none_lost;
   unnamed = more (owner.actor_of may.begun) may.unnamed;
+}
+begins_by P Q h more (compacts m) may = record {
+  asking = may.asking;
+  schema = may.schema;
+  is = may.is;
+  is_compactor = may.is_compactor;
+  table = may.table;
+  may = may.may;
+  unnamed = more (actor_named may.asking.names) may.unnamed;
 }
 
 -- who waited goes on as a machine that begins

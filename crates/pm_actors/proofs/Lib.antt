@@ -1,4 +1,5 @@
 mod BeginLemmas
+mod CompactLemmas
 mod FollowLemmas
 mod RegisterLemmas
 mod WorldLemmas

@@ -1,5 +1,7 @@
 -- Whichever machine steps, the others know what they knew.
-use Rattle.std.proofs.Common.{◌≡◌, ◌≢◌, inl, inr, ℕ, ◌≤◌, List, [], ◌∷◌, ◌++◌, length, length-append, Option, None, Some, IfSome, option_map, refl, sym, ap, subst, ◌∙◌, arith}
+use Rattle.std.proofs.Common.{◌≡◌, ◌≢◌, ◌⊎◌, inl, inr, ℕ, ◌≤◌, List, [], ◌∷◌, ◌++◌, length, length-append, Option, None, Some, IfSome, option_map, refl, sym, ap, subst, ◌∙◌, arith}
+use Rattle.std.specs.Cmp.Lexicographic.{nat_list_cmp_total}
+use Rattle.std.specs.FinMap.{nat_cmp-IsAntisymmetric, same_map, slice_cmp-IsAntisymmetric}
 use Rattle.std.specs.List.{AllByRecursion}
 use Rattle.pm_store.specs.declared.call.Op.{Op}
 use Rattle.pm_store.specs.Files.{Files, after_effect, after_op, files_after}
@@ -29,6 +31,9 @@ use Rattle.pm_commit.specs.Meaning as commit
 use Rattle.pm_commit.specs.Own as owner
 use Rattle.pm_commit.specs.Own.{OwnView}
 use Rattle.pm_commit.specs.declared.phase.Phase as committing
+use Rattle.pm_compactor.specs.Meaning as compactor
+use Rattle.pm_compactor.specs.declared.phase.Phase as compacting
+use Rattle.pm_compactor.specs.declared.phase.Phase.TheVariants as compactors
 use Rattle.pm_model_consumers.specs.Claims.{Follower}
 use Rattle.pm_register.specs.Meaning as registrar
 use Rattle.pm_register.specs.Registrar.{Registering}
@@ -46,7 +51,7 @@ use Rattle.pm_announce.specs.declared.phase.Phase.TheVariants as announcers
 use Rattle.pm_expire.specs.Meaning as expirer
 use Rattle.pm_expire.specs.declared.phase.Phase as expiring
 use Rattle.pm_expire.specs.declared.phase.Phase.TheVariants as expirers
-use Rattle.pm_actors.specs.World.{AllKnow, AreAllApart, AreApart, Differ, Followed, IsWorld, KeepsActor, Knows, KnowsFollowed, Leaves, Worker, actor_of, commits, creates, drops, expires, finds, follows, lists, moves, registers, scans, waits}
+use Rattle.pm_actors.specs.World.{AllKnow, AreAllApart, AreApart, Differ, Followed, IsWorld, KeepsActor, Knows, KnowsFollowed, Leaves, Worker, actor_of, commits, compactor_of, compacts, creates, drops, expires, finds, follows, lists, moves, registers, scans, waits}
 
 -- what the laws of the crates below say
 pub record KnownLaws : Type 0 where
@@ -68,6 +73,8 @@ pub record KnownLaws : Type 0 where
   pub frames : (h later : History) (id : ℕ) (texts : List (List ℕ)) → GoesOn h later → AreFramesFrom h id texts → AreFramesFrom later id texts
   pub commits : (e : Entry) (m : committing.Phase) (other : Actor) (f after : Files) (p q : Past) → Stands f p → Advances other f p after q
       → commit.IsOtherThan other m → commit.Knows e m f p → commit.Knows e m after q
+  pub compacts : (m : compacting.Phase) (other : Actor) (f after : Files) (p q : Past) → Stands f p → Advances other f p after q
+      → compactor.IsOtherThan other m → compactor.Knows m f p → compactor.Knows m after q
   pub registers : (me other : Actor) (r : Registering) (m : registering.Phase) (f after : Files) (p q : Past) → Stands f p
       → Advances other f p after q → follower_of other ≢ follower_of me → registrar.Knows me r m f p → registrar.Knows me r m after q
   pub moves : (m : Move) (phase : moving.MovePhase) (other : Actor) (f after : Files) (p q : Past) → Stands f p → Advances other f p after q
@@ -79,14 +86,29 @@ pub record KnownLaws : Type 0 where
 
 -- ---- who steps
 
--- what is changed is an advance of the actor that steps
+-- what is changed is an advance of this actor
+abbrev StepsAs : Option Actor → Files → Past → Files → Past → Type 0
+StepsAs o f p after q = (me : Actor) × (o ≡ Some me) × Advances me f p after q
+
+-- of the one that steps; and where nobody runs a machine, it changes nothing
 abbrev Steps : Worker → Files → Past → Files → Past → Type 0
-Steps a f p after q = (me : Actor) × (actor_of a ≡ Some me) × Advances me f p after q
+Steps a f p after q = StepsAs (actor_of a) f p after q ⊎ IsKept f p after q
 
 commit_steps : (e : Entry) (o : Option OwnView) (f after : Files) (p q : Past) → commit.MakesIn o e f p after q
-    → (me : Actor) × (option_map owner.actor_of o ≡ Some me) × Advances me f p after q
+    → StepsAs (option_map owner.actor_of o) f p after q
 commit_steps e None f after p q makes = absurd makes
 commit_steps e (Some o) f after p q makes = (owner.actor_of o, refl, makes.advances)
+
+-- a compactor's files and its entry are those of its committer
+compact_steps : (m : compacting.Phase) (f after : Files) (p q : Past) → compactor.Leaves m f p after q
+    → StepsAs (compactor_of m) f p after q ⊎ IsKept f p after q
+compact_steps (compactors.Create m next rest) f after p q (e, is, makes) = inl (commit_steps e (commit.own_in m) f after p q makes)
+compact_steps (compactors.Commit m) f after p q (e, is, makes) = inl (commit_steps e (commit.own_in m) f after p q makes)
+compact_steps (compactors.View asking m) f after p q kept = inr kept
+compact_steps (compactors.Names x) f after p q kept = inr kept
+compact_steps (compactors.Files x m) f after p q kept = inr kept
+compact_steps compactors.Nothing f after p q kept = inr kept
+compact_steps compactors.Over f after p q kept = inr kept
 
 -- the floor of an expirer appears, or a path goes, or nothing is changed
 announce_steps : KnownLaws → (me : Actor) (m : announce_phase.Phase) (f after : Files) (p q : Past) → announcing.Makes me m f p after q → Advances me f p after q
@@ -106,19 +128,20 @@ expire_steps laws me (expirers.Done first last) f after p q kept = laws.same me 
 expire_steps laws me expirers.Over f after p q kept = laws.same me f after p q kept
 
 steps : KnownLaws → (a : Worker) (f after : Files) (p q : Past) → Leaves a f p after q → Steps a f p after q
-steps laws (waits me) f after p q kept = (me, refl, laws.same me f after p q kept)
-steps laws (creates t m) f after p q makes = (t.me, refl, makes.advances)
-steps laws (lists me m) f after p q kept = (me, refl, laws.same me f after p q kept)
-steps laws (scans me m) f after p q kept = (me, refl, laws.same me f after p q kept)
-steps laws (finds me s m) f after p q kept = (me, refl, laws.same me f after p q kept)
-steps laws (follows me x m) f after p q kept = (me, refl, laws.same me f after p q kept)
-steps laws (commits e m) f after p q makes = commit_steps e (commit.own_in m) f after p q makes
-steps laws (registers me r m) f after p q (change, puts) = (me, refl, change.advances)
-steps laws (moves m phase) f after p q (inl kept) = (m.me, refl, laws.same m.me f after p q kept)
-steps laws (moves m phase) f after p q (inr past) = (m.me, refl, past.advances)
-steps laws (drops d phase) f after p q (inl kept) = (d.me, refl, laws.same d.me f after p q kept)
-steps laws (drops d phase) f after p q (inr gone) = (d.me, refl, gone.advances)
-steps laws (expires me m) f after p q makes = (me, refl, expire_steps laws me m f after p q makes)
+steps laws (waits me) f after p q kept = inr kept
+steps laws (creates t m) f after p q makes = inl (t.me, refl, makes.advances)
+steps laws (lists me m) f after p q kept = inr kept
+steps laws (scans me m) f after p q kept = inr kept
+steps laws (finds me s m) f after p q kept = inr kept
+steps laws (follows me x m) f after p q kept = inr kept
+steps laws (commits e m) f after p q makes = inl (commit_steps e (commit.own_in m) f after p q makes)
+steps laws (compacts m) f after p q makes = compact_steps m f after p q makes
+steps laws (registers me r m) f after p q (change, puts) = inl (me, refl, change.advances)
+steps laws (moves m phase) f after p q (inl kept) = inr kept
+steps laws (moves m phase) f after p q (inr past) = inl (m.me, refl, past.advances)
+steps laws (drops d phase) f after p q (inl kept) = inr kept
+steps laws (drops d phase) f after p q (inr gone) = inl (d.me, refl, gone.advances)
+steps laws (expires me m) f after p q makes = inl (me, refl, expire_steps laws me m f after p q makes)
 
 -- ---- who knows
 
@@ -137,6 +160,15 @@ followers_apart me other differ same = differ.apart (ap (λ (x : Follower). acto
 other_commit : (me : Actor) (o : Option OwnView) → IfSome (option_map owner.actor_of o) (λ other. Differ me other) → IfSome o (λ o. owner.actor_of o ≢ me)
 other_commit me None differ = tt
 other_commit me (Some o) differ = λ same. differ.apart (sym same)
+
+other_compactor : (me : Actor) (m : compacting.Phase) → IfSome (compactor_of m) (λ other. Differ me other) → compactor.IsOtherThan me m
+other_compactor me (compactors.View asking m) differ = λ same. differ.apart (sym same)
+other_compactor me (compactors.Names x) differ = λ same. differ.apart (sym same)
+other_compactor me (compactors.Files x m) differ = λ same. differ.apart (sym same)
+other_compactor me (compactors.Create m next rest) differ = other_commit me (commit.own_in m) differ
+other_compactor me (compactors.Commit m) differ = other_commit me (commit.own_in m) differ
+other_compactor me compactors.Nothing differ = tt
+other_compactor me compactors.Over differ = tt
 
 -- a table stays that of its history, which has no fewer entries
 table_stays : (s : TableSchema) (h later : History) → GoesOn h later → IsTableOf s h → IsTableOf s later
@@ -180,6 +212,8 @@ knows_still laws (follows other x m) me f after p q differ stands advances (foll
 )
 knows_still laws (commits e m) me f after p q differ stands advances known =
     laws.commits e m me f after p q stands advances (other_commit me (commit.own_in m) differ) known
+knows_still laws (compacts m) me f after p q differ stands advances known =
+    laws.compacts m me f after p q stands advances (other_compactor me m differ) known
 knows_still laws (registers other r m) me f after p q differ stands advances known =
     laws.registers other me r m f after p q stands advances (followers_apart me other differ) known
 knows_still laws (moves m phase) me f after p q differ stands advances known = laws.moves m phase me f after p q stands advances known
@@ -191,17 +225,28 @@ apart_from a b me is apart =
     subst (λ (o : Option Actor). IfSome o (λ (me : Actor). IfSome (actor_of b) (λ (other : Actor). Differ me other))) is apart
 
 all_still : KnownLaws → (a : Worker) (others : List Worker) (f after : Files) (p q : Past) → AllByRecursion (AreApart a) others → Stands f p
-    → Steps a f p after q → AllKnow others f p → AllKnow others after q
+    → StepsAs (actor_of a) f p after q → AllKnow others f p → AllKnow others after q
 all_still laws a [] f after p q apart stands acts known = tt
 all_still laws a (b ∷ others) f after p q apart stands acts known = (
   knows_still laws b acts.0 f after p q (apart_from a b acts.0 acts.1 apart.0) stands acts.2 known.0,
   all_still laws a others f after p q apart.1 stands acts known.1,
 )
 
+-- where no path has another content the files are the same
+kept_files : (f after : Files) (p q : Past) → IsKept f p after q → after ≡ f
+kept_files f after p q kept = same_map nat_list_cmp_total (slice_cmp-IsAntisymmetric nat_cmp-IsAntisymmetric) after f kept.files
+
+all_kept : (others : List Worker) (f after : Files) (p q : Past) → IsKept f p after q → Stands f p → AllKnow others f p → Stands after q × AllKnow others after q
+all_kept others f after p q kept stands known =
+    subst (λ (g : Files). Stands g q × AllKnow others g q) (sym (kept_files f after p q kept))
+    (subst (λ (r : Past). Stands f r × AllKnow others f r) (sym kept.past) (stands, known))
+
 pub others_know : KnownLaws → (a : Worker) (others : List Worker) → AllByRecursion (AreApart a) others → Lasts Stands (Leaves a) (AllKnow others)
-others_know laws a others apart f after p q stands known changes =
-    let acts = steps laws a f after p q changes in
-    (laws.past acts.0 f after p q stands acts.2, all_still laws a others f after p q apart stands acts known)
+others_know laws a others apart f after p q stands known changes = by (steps laws a f after p q changes)
+  where
+    by : Steps a f p after q → Stands after q × AllKnow others after q
+    by (inl acts) = (laws.past acts.0 f after p q stands acts.2, all_still laws a others f after p q apart stands acts known)
+    by (inr kept) = all_kept others f after p q kept stands known
 
 -- ---- who is apart
 

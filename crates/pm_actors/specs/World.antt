@@ -1,5 +1,5 @@
 -- Machines of commands beside each other on one folder, each run by an actor: what each may change, and what it knows.
-use Rattle.std.specs.Prelude.{◌≡◌, ◌≢◌, ◌⊎◌, ℕ, suc, ◌≤◌, List, [], ◌∷◌, ◌++◌, Option, Some, IfSome, option_map}
+use Rattle.std.specs.Prelude.{◌≡◌, ◌≢◌, ◌⊎◌, ℕ, suc, ◌≤◌, List, [], ◌∷◌, ◌++◌, Option, None, Some, IfSome, option_map}
 use Rattle.std.specs.List.{AllByRecursion}
 use Rattle.pm_store.specs.Files.{Files, files_after}
 use Rattle.pm_store.specs.declared.call.Op.{Op}
@@ -40,12 +40,17 @@ use Rattle.pm_expire.specs.declared.phase.Phase as expiring
 use Rattle.pm_expire.specs.declared.phase.Phase.TheVariants as expirers
 use Rattle.pm_made.specs.Intent.{Means}
 use Rattle.pm_commit.specs.AllCalls.{NamesNone}
-use Rattle.pm_commit.specs.Committer.{IsCommitter}
+use Rattle.pm_commit.specs.Committer.{IsCommitter, newest_of}
 use Rattle.pm_commit.specs.Meaning as commit
 use Rattle.pm_commit.specs.Own as owner
 use Rattle.pm_commit.specs.Own.{OwnView}
 use Rattle.pm_commit.specs.declared.phase.Phase as committing
 use Rattle.pm_commit.specs.declared.phase.Phase.TheVariants as committers
+use Rattle.pm_plan.specs.declared.planned.Asking as planning
+use Rattle.pm_compactor.specs.Compactor.{IsCompactor, actor_of as actor_named}
+use Rattle.pm_compactor.specs.Meaning as compactor
+use Rattle.pm_compactor.specs.declared.phase.Phase as compacting
+use Rattle.pm_compactor.specs.declared.phase.Phase.TheVariants as compactors
 use Rattle.pm_register.specs.Meaning as registrar
 use Rattle.pm_register.specs.Registrar.{IsRegistering, Registering, registration_of}
 use Rattle.pm_register.specs.declared.phase.Phase as registering
@@ -78,9 +83,10 @@ with_frame x text = record x { frames = x.frames ++ text ∷ [] }
 abbrev pub reader_at : TableSchema → ℕ → following.Phase
 reader_at s id = followers.Log (logs.Snapshot (log_asked_of s id))
 
--- an actor whose command has no machine yet; or a machine of a command, by its phase: with the table that it makes, the
+-- An actor whose command has no machine yet; or a machine of a command, by its phase: with the table that it makes, the
 -- entry that it adds, or who runs it. The readers of the latest snapshot's id and of a frame have the table, too, and
--- the following that they are for; a registrar has the consumer, a mover the text that was printed, too.
+-- the following that they are for; a registrar has the consumer, a mover the text that was printed, too. A compactor's
+-- phase says who runs it, and once the commit is made which entry it adds.
 pub data Worker : Type 0 where
   waits : Actor → Worker
   creates : NewTable → creating.Phase → Worker
@@ -89,12 +95,24 @@ pub data Worker : Type 0 where
   finds : Actor → TableSchema → finding.Phase → Worker
   follows : Actor → Followed → following.Phase → Worker
   commits : Entry → committing.Phase → Worker
+  compacts : compacting.Phase → Worker
   registers : Actor → Registering → registering.Phase → Worker
   moves : Move → moving.MovePhase → Worker
   drops : Drop → dropping.DropPhase → Worker
   expires : Actor → expiring.Phase → Worker
 
--- who runs it; of a commit that is over nobody
+-- who runs a compactor: the actor of its names, which its plan and then its committer has; of one that is over or has
+-- nothing to do nobody
+abbrev pub compactor_of : compacting.Phase → Option Actor
+compactor_of (compactors.View asking m) = Some (actor_named asking.names)
+compactor_of (compactors.Names x) = Some (actor_named x.names)
+compactor_of (compactors.Files x m) = Some (actor_named x.names)
+compactor_of (compactors.Create m next rest) = option_map owner.actor_of (commit.own_in m)
+compactor_of (compactors.Commit m) = option_map owner.actor_of (commit.own_in m)
+compactor_of compactors.Nothing = None
+compactor_of compactors.Over = None
+
+-- who runs it; of a commit or a compaction that is over nobody
 abbrev pub actor_of : Worker → Option Actor
 actor_of (waits me) = Some me
 actor_of (creates t m) = Some t.me
@@ -103,6 +121,7 @@ actor_of (scans me m) = Some me
 actor_of (finds me s m) = Some me
 actor_of (follows me x m) = Some me
 actor_of (commits e m) = option_map owner.actor_of (commit.own_in m)
+actor_of (compacts m) = compactor_of m
 actor_of (registers me r m) = Some me
 actor_of (moves m phase) = Some m.me
 actor_of (drops d phase) = Some d.me
@@ -117,6 +136,7 @@ Leaves (scans me m) f p after later = IsKept f p after later
 Leaves (finds me s m) f p after later = IsKept f p after later
 Leaves (follows me x m) f p after later = IsKept f p after later
 Leaves (commits e m) f p after later = commit.MakesEntry e m f p after later
+Leaves (compacts m) f p after later = compactor.Leaves m f p after later
 Leaves (registers me r m) f p after later = registrar.RegistersAt me r m f p after later
 Leaves (moves m phase) f p after later = MayMovePast m f p after later
 Leaves (drops d phase) f p after later = MayDrop d f p after later
@@ -141,6 +161,7 @@ Knows (scans me m) f p = scan.Knows m f p
 Knows (finds me s m) f p = IsTableOf s p.history × latest_reader.Knows m f p
 Knows (follows me x m) f p = KnowsFollowed x p × frame_reader.Knows m f p
 Knows (commits e m) f p = commit.Knows e m f p
+Knows (compacts m) f p = compactor.Knows m f p
 Knows (registers me r m) f p = registrar.Knows me r m f p
 Knows (moves m phase) f p = mover.Knows m phase f p
 Knows (drops d phase) f p = dropper.Knows d phase f p
@@ -193,6 +214,17 @@ pub record BeginsCommit (Named : Actor → Type 0) (h : History) (e : Entry) (m 
   pub none_lost : begun.lost ≡ []
   pub unnamed : Named (owner.actor_of begun)
 
+-- what a compactor begins with: the reader of its table's newest view has made no call, and its actor is one that named
+-- nothing
+pub record BeginsCompact (Named : Actor → Type 0) (h : History) (m : compacting.Phase) : Type 0 where
+  pub asking : planning.Asking
+  pub schema : TableSchema
+  pub is : m ≡ compactors.View asking (readers.List (newest_of schema))
+  pub is_compactor : IsCompactor m
+  pub table : IsTableOf schema h
+  pub may : MayName asking.names
+  pub unnamed : Named (actor_named asking.names)
+
 -- what a reader of a frame begins with: it is the first frame, of a snapshot that was listed
 pub record BeginsFollow (h : History) (x : Followed) (m : following.Phase) : Type 0 where
   pub is : m ≡ reader_at x.schema x.start
@@ -244,16 +276,17 @@ Begins Named h (scans me m) =
 Begins Named h (finds me s m) = (m ≡ finders.List) × IsTableOf s h
 Begins Named h (follows me x m) = BeginsFollow h x m
 Begins Named h (commits e m) = BeginsCommit Named h e m
+Begins Named h (compacts m) = BeginsCompact Named h m
 Begins Named h (registers me r m) = BeginsRegister h r m
 Begins Named h (moves m phase) = BeginsMove h m phase
 Begins Named h (drops d phase) = BeginsDrop h d phase
 Begins Named h (expires me m) = BeginsExpire h m
 
--- in a folder that is found: no snapshot that is there names a file of a committer
+-- in a folder that is found: no snapshot that is there names a file of a committer or a compactor
 abbrev pub MayBegin : Files → History → Worker → Type 0
 MayBegin f h w = Begins (λ me. NamesNone me h f) h w
 
--- beside others: no known snapshot names a file of a committer
+-- beside others: no known snapshot names a file of a committer or a compactor
 abbrev pub MayJoin : Past → Worker → Type 0
 MayJoin p w = Begins (λ me. HasNamedNone me p) p.history w
 

@@ -5,7 +5,9 @@ ghost use Rattle.std.specs.Global.{Global};
 ghost use Rattle.std.specs.List.{AllByRecursion};
 ghost use Rattle.pm_actors.specs.World.{AllKnow, AreApart, IsWorld, KeepsActor, Knows, Leaves, MayBegin, MayFollow};
 ghost use Rattle.pm_actors.specs.World.{Followed, MayJoin, Worker, finds, follow_from, follows, reader_at, waits};
-ghost use Rattle.pm_actors.specs.World.{expires, moves, registers, with_frame, HasEnd};
+ghost use Rattle.pm_actors.specs.World.{compacts, expires, moves, registers, with_frame, HasEnd};
+ghost use Rattle.pm_compactor.specs.Compactor.{Goes};
+ghost use Rattle.pm_compactor.specs.declared.phase.Phase.{Phase as CompactPhase};
 ghost use Rattle.pm_expire.specs.declared.phase.Phase.{Phase as ExpirePhase};
 ghost use Rattle.pm_machine.specs.Moves.{Keeps, Lasts};
 ghost use Rattle.pm_model_consumers.specs.Changes.{HasLost};
@@ -25,6 +27,7 @@ ghost use Rattle.pm_register.specs.declared.phase.Registration.{Registration};
 ghost use Rattle.pm_schema.specs.declared.schema.TableSchema.{TableSchema};
 ghost use Rattle.pm_store.specs.Files.{Files, files_after};
 ghost use Rattle.pm_store.specs.Store.{own_op};
+ghost use Rattle.pm_store.specs.declared.answer.Answer.{Answer};
 ghost use Rattle.pm_store.specs.declared.call.Effect.{Effect};
 ghost use Rattle.pm_store.specs.declared.call.Op.{Op};
 
@@ -66,6 +69,7 @@ pub fn others_law()
     goes_on_law();
     frames_law();
     pm_commit::known_law();
+    pm_compactor::known_law();
     pm_register::known_law();
     pm_move_consumer::known_law();
     pm_expire::known_law();
@@ -84,6 +88,14 @@ pub fn world_law()
         → IsWorld (before ++ a ∷ later) ops → IsWorld (before ++ new ∷ later) ops }
 {
     others_law();
+}
+
+/// Whoever runs a compactor goes on to run it, until it is over or has nothing to do.
+pub fn compactor_law()
+    ensures { (m : CompactPhase) (answer : Answer) (later : CompactPhase) → Goes m answer later
+        → KeepsActor (compacts m) (compacts later) }
+{
+    pm_commit::actor_law();
 }
 
 /// A following makes no call where its next machine comes in the place of the one before: once the snapshots were

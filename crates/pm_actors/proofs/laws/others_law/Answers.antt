@@ -16,9 +16,10 @@ returns c =
       goes_on = c.goes_on_law.ensures;
       frames = c.frames_law.ensures.later;
       commits = c.known_law-6.ensures;
-      registers = c.known_law-7.ensures;
-      moves = c.known_law-8.ensures.moves;
-      drops = c.known_law-8.ensures.drops;
-      expires = c.known_law-9.ensures;
+      compacts = c.known_law-7.ensures;
+      registers = c.known_law-8.ensures;
+      moves = c.known_law-9.ensures.moves;
+      drops = c.known_law-9.ensures.drops;
+      expires = c.known_law-10.ensures;
     } in
     others_know laws
