@@ -6,7 +6,6 @@ use Rattle.pm_values.specs.declared.refusal.Refusal.TheVariants as refusals
 use Rattle.pm_io.specs.Sink.{SinkView}
 use Rattle.pm_machine.specs.Trace.{Event}
 use Rattle.pm_model_history.specs.History.{History, no_table, table}
-use Rattle.pm_model_folder.specs.Folder.{Folder}
 use Rattle.pm_consumer_files.specs.Lines.{consumers_text}
 use Rattle.pm_consumer_files.specs.declared.lines.NamedConsumer.{NamedConsumer}
 use Rattle.pm_create.specs.Making.{LeavesFiles}

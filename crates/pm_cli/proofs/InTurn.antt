@@ -78,7 +78,7 @@ image_stands P (Some before) (Some after) (Some ops) images (i, from, image) =
     next_stands P before after i (files_after ops) images from image ops (record { ops = Some ops; faults = 0 }) refl refl
 
 -- the next store stands for what the command made
-next_store : (ending : Ending) (e : Execution) (h : History) (first next : StoreView) → first.ops ≡ e.before.store.ops → KeepsIt e h first
+pub next_store : (ending : Ending) (e : Execution) (h : History) (first next : StoreView) → first.ops ≡ e.before.store.ops → KeepsIt e h first
     → HandsOn ending e next → (later : History) × MakesBy ending e h later × LeavesFiles (StandsForOthers e h first later) next
 next_store ended e h first next same kept has =
     (kept.later, kept.makes, end_stands (StandsForOthers e h first kept.later) e.after.store.ops next.ops kept.ends has)
@@ -140,7 +140,7 @@ pub still_settled : (names : List (List ℕ)) (e : Execution) (h : History) (fir
 still_settled names e h first later f stands others was = stands.settled names (λ name there takes. absurd (others name there takes)) was
 
 -- what goes with snapshots is a snapshot's, one that snapshots name, or a floor
-given-back : (s : TableSchema) (g : Files) (end : ℕ) (path : List ℕ) → IsBuilt s → IsGivenBack s g end path → IsOfSnapshots path
+pub given-back : (s : TableSchema) (g : Files) (end : ℕ) (path : List ℕ) → IsBuilt s → IsGivenBack s g end path → IsOfSnapshots path
 given-back s g end path built (its_snapshot id below is) = inl (s, id, plain_names s built, inl is)
 given-back s g end path built (its_file id low below names spared) = inl (s, id, plain_names s built, inr (g, names))
 given-back s g end path built (its_floor n below is) = inr (n, is)

@@ -8,6 +8,7 @@ mod Expire
 mod First
 mod Follow
 mod InTurn
+mod Kept
 mod ListOrDrop
 mod NothingLaws
 mod Origin

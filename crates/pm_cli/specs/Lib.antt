@@ -1,5 +1,6 @@
 pub mod Commands
 pub mod InTurn
+pub mod Kept
 pub mod Promise
 pub mod Snapshots
 pub mod Start

@@ -127,7 +127,7 @@ HasMade e h (Some (refusals.StoreFault path)) later =
     × LeavesOut e.command (found_by e) h e.before.out e.after.out
 HasMade e h (Some other) later = (later ≡ h) × LeavesOut e.command (found_by e) h e.before.out e.after.out
 
--- An expiry changes the file at a path: it takes it with snapshots that go, or makes the floor which announces their end.
+-- An expiry changes the file at a path: it takes it with snapshots that go, or makes the floor that tells their end.
 abbrev pub ExpiresAt : Command → Start → History → Files → Files → List ℕ → Type 0
 ExpiresAt (commands.Expire min max millis) start h was f path =
     OfBuilt h (λ s. ChangesAt (asked_by start (keep_asked min max millis) s) was f path)
@@ -187,8 +187,8 @@ ArePrinted e name from full (table s es) first f = LeavesFiles (λ was. (count :
     → (rest : List ℕ) × (e.after.out.taken ≡ and_then e.before.out.taken
     (pieces_of s es (settled_at was name) from full (suc count) ++ rest))) first
 
--- What a stop leaves of that, in each image: of a following no consumer that is past a frame which wasn't printed whole;
--- of an expiry the floor in part or whole, or so many of the removes, of which those of snapshots come first.
+-- What a stop leaves of that, in each image: of a following no consumer that is past a frame which wasn't printed
+-- whole; of an expiry the floor in part or whole, or so many of the removes, of which those of snapshots come first.
 abbrev pub StopsOwn : Execution → Command → History → StoreView → Files → Type 0
 StopsOwn e (commands.Expire min max millis) h first f =
     LeavesFiles (λ was. IsImage e.start (keep_asked min max millis) h was f) first

@@ -1,6 +1,7 @@
 //! The promise follows from what commands are proved to do; and histories have a beginning, from which commands go on.
 
-ghost use Rattle.std.specs.Prelude.{◌≡◌, ◌⊎◌, ◌≤◌, ℕ, suc, List, [], ◌∷◌, ◌++◌, length, Bool, Option, None, Some, Ok};
+ghost use Rattle.std.specs.Prelude.{◌≡◌, ◌⊎◌, ◌≤◌, ℕ, suc, List, [], ◌∷◌, ◌++◌, length, Bool};
+ghost use Rattle.std.specs.Prelude.{Option, None, Some, IsSome, Ok};
 ghost use Rattle.std.specs.FinMap as map;
 ghost use Rattle.std.specs.List.{AllByRecursion};
 ghost use Rattle.std.specs.Option.{option_or};
@@ -18,7 +19,7 @@ ghost use Rattle.pm_model_history.specs.Merged.{scan_text};
 ghost use Rattle.pm_model_following.specs.Following.{IsFinished, table_text};
 ghost use Rattle.pm_model_folder.specs.Changes.{Actor};
 ghost use Rattle.pm_model_folder.specs.Folder.{Folder, HaveSettled};
-ghost use Rattle.pm_model_folder.specs.Paths.{consumer_path};
+ghost use Rattle.pm_model_folder.specs.Paths.{consumer_path, snapshot_path};
 ghost use Rattle.pm_expire_end.specs.declared.keep.KeepAsked.{KeepAsked};
 ghost use Rattle.pm_create.specs.Making.{LeavesFiles};
 ghost use Rattle.pm_write.specs.Taken.{all_taken};
@@ -34,13 +35,15 @@ ghost use Rattle.pm_command_consumers.specs.Drop.{StandsWithout};
 ghost use Rattle.pm_command_create.specs.Create.{IsDraftOf, StandsForEither};
 ghost use Rattle.pm_command_expire.specs.Expire as expire;
 ghost use Rattle.pm_command_follow.specs.Finished.{HasPassedAll};
-ghost use Rattle.pm_command_follow.specs.Printed.{LeadFrom, start_of, table_head};
+ghost use Rattle.pm_command_follow.specs.Printed.{LeadFrom, follow_text, start_of, table_head};
 ghost use Rattle.pm_command_write.specs.Write.{IsImage, Lines, MayStartAfter};
 ghost use Rattle.pm_command_write.specs.declared.writer.Writer.{Writer};
-ghost use Rattle.pm_cli.specs.InTurn.{AreInTurn, DropNone, HandsOn, HaveOwnNames, IsExecuted, MakeInTurn, TouchNone};
-ghost use Rattle.pm_cli.specs.InTurn.{Turn, WriteNone, ended, seen_by_another, to_its_end};
-ghost use Rattle.pm_cli.specs.Promise.{Does, Execution, Keeps, KeepsIt, MayMake};
-ghost use Rattle.pm_cli.specs.Start.{HaveOtherNames, IsNew, MayExpire, MayStart};
+ghost use Rattle.pm_cli.specs.Commands.{keep_asked};
+ghost use Rattle.pm_cli.specs.InTurn.{AreInTurn, DropNone, Ending, HandsOn, HaveOwnNames, IsExecuted, MakeInTurn};
+ghost use Rattle.pm_cli.specs.InTurn.{TouchNone, Turn, WriteNone, ended, seen_by_another, to_its_end};
+ghost use Rattle.pm_cli.specs.Kept.{IsForNoLoss, IsForNoLossFollowed, IsKeptBy, PrintsText, least_read};
+ghost use Rattle.pm_cli.specs.Promise.{Does, Execution, Keeps, KeepsIt, MayMake, StandsForOthers};
+ghost use Rattle.pm_cli.specs.Start.{HaveOtherNames, IsNew, MayExpire, MayStart, consumed_text};
 
 use pm_command_follow::replay_law;
 use pm_model_contents::{one_contents_law, same_law};
@@ -55,9 +58,9 @@ use pm_schema::draft_law;
 /// content, but that of its consumer where one is dropped or followed with; and one that has what a crash within
 /// `expire` left stands for the history, and is that of an expiry which was stopped. Another actor that might have
 /// started before `write`, `compact` or `expire` may start there, and wherever no path has another content. So what
-/// `run` promises of a history holds again of the next `write`, `compact`, `scan`, `snapshots`, `consumers`, `follow` or
-/// `expire`, and after a crash within one of these; behind a drop or a following with a consumer that of `write` and `compact` for actors that are
-/// new to the table (`free_law`).
+/// `run` promises of a history holds again of the next `write`, `compact`, `scan`, `snapshots`, `consumers`, `follow`
+/// or `expire`, and after a crash within one of these; behind a drop or a following with a consumer that of `write` and
+/// `compact` for actors that are new to the table (`free_law`).
 pub fn next_command_law()
     ensures create { (start : Start) (bytes : List ℕ) (h : History) (old new : List Op) (i : ℕ)
         (image : Files) → Extends (StandsForEither start bytes h) (Some old) (Some new) → length old ≤ i
@@ -341,4 +344,75 @@ pub fn first_steps_law()
         × (scan.after.out.taken ≡ and_then scan.before.out.taken (scan_text s rows)) }
 {
     in_turn_law();
+}
+
+// ---- what an expiry keeps
+
+/// The file of a snapshot that an expiry keeps is as it was before, at the end and in each image of a crash; so it is
+/// there if it was. Those are kept that aren't below the end of the expiry, which is the first number that it prints
+/// (`expires` of `Does`).
+pub fn kept_law()
+    ensures same { (min max millis : Option ℕ) (e : Execution) (s : TableSchema) (es : List Entry) (first : StoreView)
+        (later : History) (f : Files) (id : ℕ) → e.command ≡ commands.Expire min max millis → id ≤ length es
+        → LeavesFiles (λ was. Folder was (table s es) × IsKeptBy e.start (keep_asked min max millis) s id was) first
+        → StandsForOthers e (table s es) first later f
+        → LeavesFiles (λ was. map.get f (snapshot_path id) ≡ map.get was (snapshot_path id)) first }
+    ensures there { (min max millis : Option ℕ) (e : Execution) (s : TableSchema) (es : List Entry) (first : StoreView)
+        (later : History) (f : Files) (id : ℕ) → e.command ≡ commands.Expire min max millis → id ≤ length es
+        → LeavesFiles (λ was. Folder was (table s es) × IsKeptBy e.start (keep_asked min max millis) s id was
+        × IsSome (map.get was (snapshot_path id))) first
+        → StandsForOthers e (table s es) first later f → IsSome (map.get f (snapshot_path id)) }
+{
+    pm_expire::one_end_law();
+}
+
+/// What `scan --snapshot` prints of a snapshot that an expiry keeps is the same before the expiry and after it, however
+/// that ended and wherever a crash stopped it: with status 0 the scan of the snapshot, else a prefix of it. The second
+/// one isn't refused, but as memory runs out, for a fault of the store or of the sink, or where the table isn't built.
+pub fn kept_scan_law()
+    ensures { (before expire after : Execution) (how : Ending) (min max millis : Option ℕ) (id : ℕ) (s : TableSchema)
+        (es : List Entry) (store last : StoreView) → before.command ≡ commands.Scan (Some id) → before.refusal ≡ None
+        → 1 ≤ id → expire.command ≡ commands.Expire min max millis → after.command ≡ commands.Scan (Some id)
+        → AreInTurn store
+        (to_its_end before ∷ record { execution = expire; ending = how } ∷ to_its_end after ∷ []) last
+        → LeavesFiles (λ f. Folder f (table s es) × IsKeptBy expire.start (keep_asked min max millis) s id f) store
+        → PrintsText IsForNoLoss before (scan_text s (rows_up_to es id))
+        × PrintsText IsForNoLoss after (scan_text s (rows_up_to es id)) }
+{
+    keeps_law();
+    kept_law();
+}
+
+/// So it is of what `follow --from` prints where an expiry keeps all that it reads: the frames from the start on, and
+/// the starting table, if it is asked for.
+pub fn kept_follow_law()
+    ensures { (before expire after : Execution) (how : Ending) (min max millis : Option ℕ) (from : ℕ) (full : Bool)
+        (s : TableSchema) (es : List Entry) (store last : StoreView)
+        → before.command ≡ commands.Follow (Some from) None full → before.refusal ≡ None → 1 ≤ least_read from full
+        → expire.command ≡ commands.Expire min max millis → after.command ≡ commands.Follow (Some from) None full
+        → AreInTurn store
+        (to_its_end before ∷ record { execution = expire; ending = how } ∷ to_its_end after ∷ []) last
+        → LeavesFiles (λ f. Folder f (table s es)
+        × IsKeptBy expire.start (keep_asked min max millis) s (least_read from full) f) store
+        → PrintsText IsForNoLoss before (follow_text s es (Some from) full)
+        × PrintsText IsForNoLoss after (follow_text s es (Some from) full) }
+{
+    keeps_law();
+    kept_law();
+}
+
+/// And whoever follows with a consumer that was settled before an expiry prints after it what it had still to read: all
+/// frames from the snapshot on that the consumer reads next, or a prefix of them where the status isn't 0. An expiry
+/// keeps them, whatever it was asked to keep. The following isn't refused, but for these causes or where the table
+/// tells no changes.
+pub fn kept_consume_law()
+    ensures { (expire after : Execution) (how : Ending) (min max millis : Option ℕ) (name : List ℕ) (next : ℕ)
+        (from : Option ℕ) (full : Bool) (s : TableSchema) (es : List Entry) (store last : StoreView)
+        → expire.command ≡ commands.Expire min max millis → after.command ≡ commands.Follow from (Some name) full
+        → AreInTurn store (record { execution = expire; ending = how } ∷ to_its_end after ∷ []) last
+        → LeavesFiles (λ f. Folder f (table s es) × HaveSettled f (table s es) (name ∷ [])
+        × (settled_at f name ≡ Some next)) store
+        → PrintsText IsForNoLossFollowed after (consumed_text s es (Some next) from full) }
+{
+    keeps_law();
 }
