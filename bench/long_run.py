@@ -15,6 +15,7 @@ usage: bench/long_run.py [--program PROGRAM] [--count SECONDS] [--seed SEED]
 """
 
 import collections
+import contextlib
 import json
 import statistics
 import sys
@@ -71,17 +72,24 @@ class Trial:
                 self.command(*words, *more, allowed=allowed)
             time.sleep(seconds)
 
+    def sizes(self):
+        """The size of each file that is there; one that goes meanwhile is passed over."""
+        for name in FOLDERS:
+            for path in (self.folder / name).glob("[!.]*"):
+                with contextlib.suppress(FileNotFoundError):
+                    yield path.stat().st_size
+
     def look(self):
         """How many snapshots and files there are, of how many bytes, and how many a snapshot that is there needs."""
         folder = Folder(self.folder)
-        there = {path: path.stat().st_size for name in FOLDERS for path in (self.folder / name).glob("[!.]*")}
+        there = list(self.sizes())
         known, named = snapshot_ids(folder), set()
         for number in known:
             try:
                 named |= named_by(folder, read_schema(folder), number)
             except Refused:
                 pass  # it went meanwhile
-        return len(known), len(there), sum(there.values()), len(known) + len(named)
+        return len(known), len(there), sum(there), len(known) + len(named)
 
     def part(self, number):
         """Tells of a part of the time that is over."""
@@ -109,12 +117,14 @@ class Trial:
         acting += [threading.Thread(target=self.repeat, args=loop) for loop in loops]
         for thread in acting:
             thread.start()
-        for number in range(PARTS):
-            time.sleep(seconds / PARTS)
-            self.part(number + 1)
-        self.is_over = True
-        for thread in acting:
-            thread.join()
+        try:
+            for number in range(PARTS):
+                time.sleep(seconds / PARTS)
+                self.part(number + 1)
+        finally:
+            self.is_over = True
+            for thread in acting:
+                thread.join()
         self.judge()
 
     def judge(self):
