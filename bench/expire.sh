@@ -6,7 +6,7 @@
 # go, and a commit before and after. With strace it counts, on one more copy, the syncs, the removes and the opens. The
 # calls of the store by the rules of docs/COST.md it computes and doesn't count. It judges that an expiry prints what it
 # keeps, and that a scan prints the same before and after. The gate never runs it. It wants GNU time, and the program to
-# be built by ./paimon and to know `expire`. It has not been run whole yet.
+# be built by ./paimon and to know `expire`.
 #
 # usage: bench/expire.sh [PROGRAM [COMMITS [BATCHES [ROWS [FOLDER]]]]]   the tables are made in FOLDER, else in TMPDIR
 set -eu

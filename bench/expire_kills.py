@@ -11,7 +11,7 @@ more lets snapshots expire and isn't killed. It promises:
   - no command ends in another way than others can cause, so none finds a damaged file;
   - once nobody acts, one more expiry keeps the newest snapshot alone, with its rows and all files that it names, and
     leaves its floor alone. How many other files are left, of killed expiries and of writes that tried again, is told.
-It ends with 1 where a promise broke. The gate never runs it. docs/DEVELOPING.md will have what it prints.
+It ends with 1 where a promise broke. The gate never runs it. docs/DEVELOPING.md has what it printed.
 
 usage: bench/expire_kills.py [--program PROGRAM] [--count KILLS] [--seed SEED]
 """

@@ -9,7 +9,7 @@ isn't built yet, takes such away. It promises:
     the first, from the second part on;
   - no command ends in another way than others can cause;
   - at the end the table has of each key the row that was acknowledged last, and the consumer has all frames.
-It ends with 1 where a promise broke. The gate never runs it. It has not been run whole yet.
+It ends with 1 where a promise broke. The gate never runs it.
 
 usage: bench/long_run.py [--program PROGRAM] [--count SECONDS] [--seed SEED]
 """
