@@ -59,8 +59,9 @@ pub record Sound {M H : Type 0} (call_of : M → Option Call) (goes : M → Answ
   pub stopped : (m new : M) (f : Files) (h : H) → IsSome (call_of m) → stops m new → Folder f h → knows m f h →
       knows new f h
 
--- What a machine proves once of its refusals: that what it tells of one is true of any files of which what it knows was,
--- after the answer that shows it. Of memory that ran out, and of a fault of the store, it tells what is always true.
+-- What a machine proves once of its refusals: that what it tells of one is true of any files of which what it knows
+-- was, after the answer that shows it. Of memory that ran out, and of a fault of the store, it tells what is always
+-- true.
 pub record Truthful {M H : Type 0} (call_of : M → Option Call) (holds : M → Type 0)
     (refuses : M → Answer → Refusal → M → Type 0) (Folder : Files → H → Type 0)
     (Change : M → Files → H → Files → H → Type 0) (knows : M → Files → H → Type 0)
