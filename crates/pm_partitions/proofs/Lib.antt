@@ -3,5 +3,6 @@ mod Escapes
 mod Groups
 mod Lengths
 mod Names
+mod Plain
 mod Tests
 mod Texts

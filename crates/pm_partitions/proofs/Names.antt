@@ -52,7 +52,7 @@ begun : (x y : Bool) → x ≡ true → (x || y) ≡ true
 begun true y is = refl
 begun false y is = absurd (false≢true is)
 
-begun_byte : (b : ℕ) → begins_name b ≡ true → is_folder_byte b ≡ true
+pub begun_byte : (b : ℕ) → begins_name b ≡ true → is_folder_byte b ≡ true
 begun_byte b is = continued_byte b (begun (begins_name b) (is_ascii_digit b) is)
 
 slash_apart : (b : ℕ) → is_folder_byte b ≡ true → (b == 47) ≡ false
@@ -61,7 +61,7 @@ slash_apart b is =
 
 -- ---- names
 
-continued_bytes : (bs : List ℕ) → list_all continues_name bs ≡ true → list_all is_folder_byte bs ≡ true
+pub continued_bytes : (bs : List ℕ) → list_all continues_name bs ≡ true → list_all is_folder_byte bs ≡ true
 continued_bytes [] all = refl
 continued_bytes (b ∷ bs) all =
     let p = both (continues_name b) (list_all continues_name bs) all in

@@ -1,6 +1,6 @@
 //! What holds of the folders of all groups.
 
-ghost use Rattle.std.specs.Prelude.{◌≡◌, ◌==◌, ◌+◌, ◌<◌, ◌≤◌, ◌^◌, List, ℕ, IsTrue, false, length};
+ghost use Rattle.std.specs.Prelude.{◌≡◌, ◌≢◌, ◌==◌, ◌+◌, ◌<◌, ◌≤◌, ◌^◌, List, ℕ, IsTrue, false, length};
 ghost use Rattle.std.specs.List.{AllByRecursion, list_any, slice_split};
 ghost use Rattle.pm_values.specs.declared.group.Group.{Group};
 ghost use Rattle.pm_schema.specs.Again.{IsDeclared};
@@ -25,4 +25,10 @@ pub fn folders_law()
 pub fn one_group_law()
     ensures { (s : TableSchema) (g h : Group) → FitsPartition s g → FitsPartition s h
         → g.bucket < 2 ^ 32 → h.bucket < 2 ^ 32 → folder_text s g ≡ folder_text s h → g ≡ h }
+{}
+
+/// The names of a declared table's partition columns have no slash.
+pub fn plain_names_law()
+    ensures { (s : TableSchema) → IsDeclared s
+        → AllByRecursion (λ name. AllByRecursion (λ b. b ≢ 47) name) s.partition }
 {}
