@@ -7,4 +7,5 @@ pub mod IdLemmas
 pub mod LeadLemmas
 mod NameLemmas
 pub mod OneLemmas
+pub mod PartLemmas
 pub mod StillLemmas

@@ -33,13 +33,13 @@ pub record IsExpired (f : Files) (p : Past) (id : ℕ) : Type 0 where
   pub within : id ≤ count_of p.history
   pub absent : HasSnapshotAt f schema id → ⊥
 
--- What a reader's refusal tells of the files and of what they stand for, at the call that shows it: there is no table; the
--- snapshot that it names has gone; or that one is above another, which the table has or had. Of want of memory and of a
--- fault of the store it tells nothing. And no other refusal comes: no file is damaged.
+-- What a reader's refusal tells of the files and of what they stand for, at the call that shows it: there is no table;
+-- the snapshot that it names has gone; or that one is above the latest, which is the one that it names besides. Of want
+-- of memory and of a fault of the store it tells nothing. And no other refusal comes: no file is damaged.
 abbrev pub IsTold : Refusal → Files → Past → Type 0
 IsTold refusals.Memory f p = Unit {0}
 IsTold (refusals.StoreFault path) f p = Unit {0}
 IsTold refusals.NoTable f p = p.history ≡ no_table
-IsTold (refusals.NoSnapshot id latest) f p = (latest < id) × (latest ≤ count_of p.history)
+IsTold (refusals.NoSnapshot id latest) f p = (latest < id) × (latest ≡ count_of p.history)
 IsTold (refusals.Expired id) f p = IsExpired f p id
 IsTold other f p = ⊥
