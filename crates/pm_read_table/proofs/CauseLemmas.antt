@@ -327,7 +327,7 @@ causes laws m call answer refusal f p stands known at told shown =
 
 pub may_tell : (refusal : Refusal) (f : Files) (p : Past) → MayRefuse f p refusal → IsTold refusal f p
 may_tell refusals.Memory f p may = tt
-may_tell (refusals.NoSnapshot id latest) f p (is, above) = (above, omega (arith, is))
+may_tell (refusals.NoSnapshot id latest) f p (is, above) = (above, is)
 may_tell (refusals.Expired id) f p may = may
 may_tell other f p may = absurd may
 
