@@ -106,7 +106,7 @@ one_manifest law g s name xs ys one two =
     (subst (λ (bytes : List ℕ). ReadsFile has_entry_fields (entry_in (shape_of s)) (manifest_path name) bytes (Ok ys)) same two.read)
     (fault_clash xs refusals.Memory) (fault_clash ys refusals.Memory))
 
-one_entries : OneManifest → (g : Files) (s : TableSchema) (metas : List ManifestMeta) (xs ys : List Entry) → HaveEntries g s metas xs → HaveEntries g s metas ys → xs ≡ ys
+pub one_entries : OneManifest → (g : Files) (s : TableSchema) (metas : List ManifestMeta) (xs ys : List Entry) → HaveEntries g s metas xs → HaveEntries g s metas ys → xs ≡ ys
 one_entries law g s [] xs ys one two = one ∙ sym two
 one_entries law g s (meta ∷ metas) xs ys (own, later, split, is, have) (more, others, parts, reads, has) =
     split ∙ ap (λ (es : List Entry). es ++ later) (one_manifest law g s meta.name own more is reads)

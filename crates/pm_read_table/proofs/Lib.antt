@@ -10,4 +10,5 @@ pub mod NamedLemmas
 pub mod OneLemmas
 mod OverlapLemmas
 pub mod StillLemmas
+pub mod ViewCallsLemmas
 pub mod WithinLemmas
