@@ -38,6 +38,7 @@ use Rattle.pm_read_table.specs.declared.phase.Phase.TheVariants as readers
 use Rattle.pm_read_table.specs.declared.view.View.{View}
 use Rattle.pm_read_table.proofs.Facts as reader_facts
 use Rattle.pm_read_table.proofs.StillLemmas.{still_join, view_did_still, view_shows_still, view_still}
+use Rattle.pm_read_table.proofs.ViewCallsLemmas.{ViewLaws, entries_of, told_parts}
 use Rattle.pm_scan.specs.AllCalls.{DidScan, Ends, Has, IsCaused, IsThere, PassesOf, PrintsRows, PrintsScan, ScansOf, ScansTables, id_of, path_of}
 use Rattle.pm_scan.specs.Asked.{AskedRows, asked_at, asked_for, passed_at, wanted_of}
 use Rattle.pm_scan.specs.Rows.{groups_of, rows_at}
@@ -56,9 +57,9 @@ use Rattle.pm_scan.specs.Scanner.{next_call, calls_left, IsReady, jobs_of}
 use Rattle.pm_scan.specs.Trace.{AfterView, HasScan, DidSoFar, MayTakeMemory, ShowsOfFiles, Shows, Did}
 use Rattle.pm_scan.specs.declared.phase.Phase.{Phase}
 use Rattle.pm_scan.specs.declared.phase.Phase.TheVariants as phases
-use Rattle.pm_group_files.proofs.ViewLemmas.{each-own}
+use Rattle.pm_group_files.proofs.ViewLemmas.{OneContents, each-own}
 use Rattle.pm_scan.proofs.ScanLemmas.{Laws}
-use Rattle.pm_scan.proofs.ViewCallsLemmas.{FailsLast, ViewLaws, absent_gone, asked_up_to, committed, entries_of, live_of_part, part_at, path_is, reads_at, told_join, view_damaged_at, view_gone_at, view_misreads_at}
+use Rattle.pm_scan.proofs.ViewCallsLemmas.{FailsLast, absent_gone, asked_up_to, committed, live_of_part, part_at, path_is, reads_at, view_damaged_at, view_gone_at, view_misreads_at}
 use Rattle.pm_scan.proofs.ViewLemmas.{groups-none, no-groups, rows-have, scanned-origin, scanned-view}
 
 -- ---- they change nothing, and the first lists the schemas
@@ -118,6 +119,7 @@ rose_after earlier later own first after is trace (before, call, last) =
 pub record AllLaws : Type 0 where
   pub scans : Laws
   pub views : ViewLaws
+  pub contents : OneContents
 
 some_gone : (found : Option (List ℕ)) (bytes : List ℕ) → found ≡ Some bytes → None ≡ found → ⊥
 some_gone found bytes is none = cc
@@ -148,7 +150,7 @@ module _ (laws : AllLaws) (f : Files) (s : TableSchema) (entries : List Entry) (
   -- ---- the groups of a view are there
 
   halves : (v : View) (P : List Event → Type 0) (own : List Event) → (after : AfterView a v P own) → AreTold f own → AreTold f after.first × AreTold f after.reads
-  halves v P own after told = told_join f after.first after.reads (subst (AreTold f) after.is told)
+  halves v P own after told = told_parts f after.first after.reads (subst (AreTold f) after.is told)
 
   all_groups : (v : View) (own : List Event) → HasView a v own → AreTold f own → (v.schema ≡ s) × AllByRecursion (HasRuns f v.schema) (groups_of k v.schema v.groups.entries)
   all_groups v own (of_origin bytes view reads) told =
@@ -203,13 +205,13 @@ module _ (laws : AllLaws) (f : Files) (s : TableSchema) (entries : List Entry) (
       let w = wanted_of at in
       let p = part_at laws.views f s entries folder w (begins at) x metas [] es first read told in
       let is = committed laws.views f s entries folder w (begins at) x p.at in (
-        subst (IsAsked w (length entries)) (sym view.id) p.at.asked,
+        subst (IsAsked w (length entries)) (sym view.id) p.at.sought,
         subst (λ (id : ℕ). IsSome (map.get f (path_of s id))) (sym view.id)
             (some_there f (path_of s x.id) p.at.there.0
             (ap (map.get f) (path_is laws.views f s entries folder w (begins at) x.id p.at.least) ∙ p.at.there.1)),
-        scanned-view laws.scans laws.views.contents k f s entries x.id x p.base p.delta es live v.groups.entries c text declared folder.history.bases
-            (asked_up_to w (length entries) x.id p.at.asked) is p.at.there
-            (entries_of laws.views f s entries folder w (begins at) x metas es p) left view.order view.groups
+        scanned-view laws.scans laws.contents k f s entries x.id x p.base p.delta es live v.groups.entries c text declared folder.history.bases
+            (asked_up_to w (length entries) x.id p.at.sought) is p.at.there
+            (entries_of f s (IsAsked w (length entries)) x metas es p) left view.order view.groups
             (subst (λ (t : TableSchema). HaveTaken f (all_jobs t (groups_of k t v.groups.entries)) (nothing_of t) c) view.schema taken)
             (subst (λ (t : TableSchema). PrintsGroups (meaning_of t) (runs_read c.groups) text) view.schema prints)
             ∙ ap (λ (id : ℕ). scan_text s (rows_at k s entries id)) (sym view.id),
@@ -296,7 +298,7 @@ scanned_history laws s at (Ok text) before after declared (own, (earlier, later,
     let first = at_first_own before after in
     let still = did_still s at (Ok text) own (earlier, later, has, is, (id, scan)) in
     let stay = stayed f own first after still (Traces-first own before after trace) alone had in
-    let told = told_join f earlier later (subst (AreTold f) is stay.1) in
+    let told = told_parts f earlier later (subst (AreTold f) is stay.1) in
     let table_is = schema.ready_at f h folder s earlier has told.0 in
     let t = tabled f s h folder table_is in
     let got = text_at laws f s t.entries t.folder declared shown.All at id text later scan told.1 in
@@ -312,7 +314,7 @@ scanned_history laws s at (Err refusal) before after declared (own, (earlier, la
     let rest = Traces-first own before after trace in
     let still = did_still s at (Err refusal) own (earlier, later, has, is, shows) in
     let stay = stayed f own first after still rest alone had in
-    let told = told_join f earlier later (subst (AreTold f) is stay.1) in
+    let told = told_parts f earlier later (subst (AreTold f) is stay.1) in
     let table_is = schema.ready_at f h folder s earlier has told.0 in
     let t = tabled f s h folder table_is in
     record {

@@ -22,8 +22,8 @@ returns-clause-scan c =
         joined = (c.joined_law.ensures.left, c.joined_law.ensures.order);
         lists = c.one_reading_law.ensures;
         manifests = c.one_reading_law-2.ensures;
-        contents = c.one_contents_law.ensures;
       };
+      contents = c.one_contents_law.ensures;
     } in
     scanned_history laws
 
@@ -48,8 +48,8 @@ returns-clause-own c =
         joined = (c.joined_law.ensures.left, c.joined_law.ensures.order);
         lists = c.one_reading_law.ensures;
         manifests = c.one_reading_law-2.ensures;
-        contents = c.one_contents_law.ensures;
       };
+      contents = c.one_contents_law.ensures;
     } in
     own_history laws
 
@@ -74,7 +74,7 @@ returns-clause-passed c =
         joined = (c.joined_law.ensures.left, c.joined_law.ensures.order);
         lists = c.one_reading_law.ensures;
         manifests = c.one_reading_law-2.ensures;
-        contents = c.one_contents_law.ensures;
       };
+      contents = c.one_contents_law.ensures;
     } in
     passed_history laws
