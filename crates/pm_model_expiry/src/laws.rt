@@ -9,8 +9,9 @@ ghost use Rattle.pm_snapshot.specs.declared.consumer.Consumer.{Consumer};
 ghost use Rattle.pm_model_consumers.specs.Claims.{Counts};
 ghost use Rattle.pm_model_history.specs.History.{IsTableOf};
 ghost use Rattle.pm_model_folder.specs.Changes.{Actor, HavePlainNames};
+ghost use Rattle.pm_model_folder.specs.Commits.{Names};
 ghost use Rattle.pm_model_folder.specs.Consumers.{said_at};
-ghost use Rattle.pm_model_folder.specs.Ledger.{Advances, Past, Stands, count_of};
+ghost use Rattle.pm_model_folder.specs.Ledger.{Advances, IsKnown, Past, Stands, count_of};
 ghost use Rattle.pm_model_folder.specs.Meaning.{ConsumerAt};
 ghost use Rattle.pm_model_folder.specs.Paths.{floor_path};
 ghost use Rattle.pm_model_expiry.specs.Expiry.{HasAnnounced, HasLeft, HaveGone, HaveGoneBetween, IsDropped, lowered};
@@ -65,6 +66,13 @@ pub fn reads_law()
 pub fn spared_law()
     ensures { (f : Files) (p : Past) (end : ℕ) (name : List ℕ) (c : Consumer) → HasLeft f p end []
         → Counts (p.claims name) → ConsumerAt f name c → end ≤ c.next }
+{}
+
+/// A path that is dropped is named by no snapshot from the end on, of those that were committed and of those to come:
+/// for it stays dropped through each kind of change of every actor (`dropped` of `known_law`).
+pub fn never_law()
+    ensures { (f : Files) (p : Past) (s : TableSchema) (end id : ℕ) (path : List ℕ) → Stands f p
+        → IsTableOf s p.history → IsDropped p s end path → IsKnown p id → end ≤ id → Names (p.stood id) s id path → ⊥ }
 {}
 
 /// And it removes one path after another: each remove is a change of some kind, and leaves what is to be removed after

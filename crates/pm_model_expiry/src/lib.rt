@@ -9,9 +9,10 @@
 //! `reads_law` say how the expirer's own steps lead to it, and `removes_law` that each remove is a change of some kind,
 //! and what is left then. So no law speaks of a pair of commands. `spared_law` says that a consumer which counts, a
 //! settled one or one whose follower has listed the floors, needs no snapshot that an expirer removes once it has read
-//! the consumers after its announcement, whoever registers meanwhile.
+//! the consumers after its announcement, whoever registers meanwhile; and `never_law` that no snapshot which is kept, or
+//! ever comes, names a path that it removes.
 #![tactic(auto)]
 
 mod laws;
 
-pub use laws::{announces_law, known_law, reads_law, removes_law, spared_law};
+pub use laws::{announces_law, known_law, never_law, reads_law, removes_law, spared_law};
