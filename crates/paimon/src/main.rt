@@ -59,6 +59,7 @@ fn run_command(rt: &HostRuntime, folder: &Txt, words: &[Txt]) -> u8 {
     let mut err = StdSink::new(rt.stderr());
     let start = Start {
         session,
+        number: 0,
         now_millis,
     };
     let status = run(

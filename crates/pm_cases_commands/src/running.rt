@@ -75,6 +75,7 @@ fn execute<F: FileStore>(
         store,
         &Start {
             session,
+            number: 0,
             now_millis: command.now,
         },
     );

@@ -83,6 +83,7 @@ fn execute<F: FileStore>(
     let mut err = err;
     let mut start = Start {
         session: [0; 16],
+        number: 0,
         now_millis: 1000,
     };
     start.session[15] = session;

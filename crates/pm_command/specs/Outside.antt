@@ -20,9 +20,9 @@ use Rattle.pm_create.specs.Making.{LeavesFiles}
 use Rattle.pm_command.specs.declared.start.Start.{Start}
 use Rattle.pm_report.specs.Report.{code_of, report_text}
 
--- a single command is actor 0 of its session
+-- the actor of a command: its session and its number there
 abbrev pub actor : Start → Actor
-actor start = record { session = start.session; number = 0 }
+actor start = record { session = start.session; number = start.number }
 
 -- an actor as a user: its session and its number
 abbrev pub own_user : Actor → List ℕ

@@ -1,4 +1,4 @@
-//! The actor of a single command, as a user and as a maker of names.
+//! The actor of a command, as a user and as a maker of names.
 
 ghost use Rattle.std.specs.Prelude.{◌≡◌, All, IfOk, length, ◌<◌};
 ghost use Rattle.pm_snapshot.specs.Names.{MayName};
@@ -16,18 +16,18 @@ pub fn own_user(alloc: Global, start: &Start) -> Result<Txt, AllocError>
     ensures { IfOk result (λ name. name ≡ own_user (actor start.now)) }
 {
     let session = Uuid::from_bytes(start.session);
-    let actor: u32 = 0;
+    let actor = start.number;
     let text = format!(in alloc; "{session}-{actor}")?;
     Txt::from_str(alloc, text.as_str())
 }
 
 /// The names that it gives.
 pub fn own_names(start: &Start) -> Names
-    ensures names { result ≡ naming start.now.session 0 0 }
+    ensures names { result ≡ naming start.now.session start.now.number 0 }
     ensures may { MayName result }
 {
     bytes_fit(&start.session);
-    Names::new(start.session, 0, 0)
+    Names::new(start.session, start.number, 0)
 }
 
 /// Each byte has eight bits, which no clause says of an array: this walk reads them, and has no effect.

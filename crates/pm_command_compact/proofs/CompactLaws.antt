@@ -107,12 +107,12 @@ module _ (start : Start) (full : Bool) where
 
 -- what is asked by the actor, with its names
 pub asked_is : (start : Start) (full : Bool) (user : List ℕ) (names : Naming) (now : ℤ) → user ≡ own_user (actor start)
-    → names ≡ naming start.session 0 0 → now ≡ start.now_millis → asking_of full user names now ≡ asked_of start full
+    → names ≡ naming start.session start.number 0 → now ≡ start.now_millis → asking_of full user names now ≡ asked_of start full
 asked_is start full user names now is named at =
     ap₂ (λ (user : List ℕ) (names : Naming). asking_of full user names now) is named
-    ∙ ap (λ (now : ℤ). asking_of full (own_user (actor start)) (naming start.session 0 0) now) at
+    ∙ ap (λ (now : ℤ). asking_of full (own_user (actor start)) (naming start.session start.number 0) now) at
 
-pub own_may : (start : Start) (names : Naming) → names ≡ naming start.session 0 0 → MayName names → MayName (naming start.session 0 0)
+pub own_may : (start : Start) (names : Naming) → names ≡ naming start.session start.number 0 → MayName names → MayName (naming start.session start.number 0)
 own_may start names is may = subst MayName is may
 
 none_chosen : (chosen : List ChosenGroup) → named_groups chosen ≡ [] → chosen ≡ []
@@ -235,7 +235,7 @@ module _ (start : Start) (full : Bool) (h : History) (f : Files) (first : StoreV
   compaction_makes s after (Err e) does = spoiled s after e does
 
 pub compacted_keeps : (start : Start) (full : Bool) (s : TableSchema) (made : Result Compacted Refusal) (before after : StoreView)
-    → MayName (naming start.session 0 0) → compactor.CompactsTables s (asked_of start full) before after made → KeepsHistories start full before after made
+    → MayName (naming start.session start.number 0) → compactor.CompactsTables s (asked_of start full) before after made → KeepsHistories start full before after made
 compacted_keeps start full s made before after may compacts = λ alone h begins.
     let first = at_first_own before after in
     let files = files_of (MayStart (actor start) h) first begins in

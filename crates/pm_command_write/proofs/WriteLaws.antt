@@ -374,7 +374,7 @@ module _ (start : Start) (w : Writer) (lines : Lines) (s : TableSchema) (batch :
   commit-makes first after (Err e) has does = spoiled first after e has does
 
 pub appended_keeps : FitLaw → (start : Start) (w : Writer) (lines : Lines) (s : TableSchema) (batch : Groups) (made : Result Appended Refusal)
-    (before after : StoreView) → IsTakenOf start w lines s batch → MayName (naming start.session 0 0)
+    (before after : StoreView) → IsTakenOf start w lines s batch → MayName (naming start.session start.number 0)
     → AppendsTables s (commit_of start w batch) before after made → KeepsHistories start w lines before after (written_of made)
 appended_keeps fits start w lines s batch made before after t may appends = λ alone h begins.
     let first = at_first_own before after in
