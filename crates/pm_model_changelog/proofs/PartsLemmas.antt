@@ -1,4 +1,4 @@
--- Rows by rising key that have of each group the change's part of it.
+-- Rows that have of each group the change's part of it, by rising key.
 use Rattle.std.proofs.Common.{◌≡◌, ◌≢◌, ◌||◌, ℕ, List, [], ◌∷◌, ◌++◌, T, drop, true, false, cond, refl, sym, ap, subst, ◌∙◌, append-nil}
 use Rattle.std.specs.FinMap.Entries.{below_all, is_sorted}
 use Rattle.std.specs.List.{AllByRecursion, flat_map}
@@ -226,6 +226,7 @@ module _ (s : TableSchema) where
         at (r ∷ us) vs some other = by-row r (subst (HaveKey k) some (keys-of (primary_of s) k xs)).0
 
   pub parts-same : KeysLaw → (entries : List Entry) (n : ℕ) (rows : List HistoryRow) → partition_holds s ≡ true → AllFit s.columns (flat_map entry_rows entries)
-      → AreByKey s rows → ((g : Group) → rows_in s g rows ≡ rows_in s g (change s entries n)) → rows ≡ change s entries n
-  parts-same law entries n rows holds fit rise same =
-      one-list rows (change s entries n) rise (change-rise law s.options.producer entries n fit) (λ k. key-same holds rows (change s entries n) same k)
+      → ((g : Group) → rows_in s g rows ≡ rows_in s g (change s entries n)) → by_key s rows ≡ change s entries n
+  parts-same law entries n rows holds fit same =
+      one-list (by_key s rows) (change s entries n) (given-rise rows) (change-rise law s.options.producer entries n fit)
+      (λ k. given-own k rows ∙ key-same holds rows (change s entries n) same k)

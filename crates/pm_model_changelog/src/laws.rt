@@ -106,12 +106,12 @@ pub fn merged_log_law()
     covers_law();
 }
 
-/// Rows by rising key are a snapshot's change where of each group they have its part: so the logs of the groups, merged
-/// by key, are the change.
+/// Rows that have of each group what a snapshot changes in it are, by key, the snapshot's change, in whatever order the
+/// groups stand: so the logs of the groups, merged by key, are the change.
 pub fn parts_law()
     ensures { (s : TableSchema) (entries : List Entry) (n : ℕ) (rows : List HistoryRow)
-        → partition_holds s ≡ true → AllFit s.columns (flat_map entry_rows entries) → AreByKey s rows
-        → ((g : Group) → rows_in s g rows ≡ rows_in s g (change s entries n)) → rows ≡ change s entries n }
+        → partition_holds s ≡ true → AllFit s.columns (flat_map entry_rows entries)
+        → ((g : Group) → rows_in s g rows ≡ rows_in s g (change s entries n)) → by_key s rows ≡ change s entries n }
 {
     told_keys_law();
 }
