@@ -17,13 +17,15 @@ use pm_values::Refusal;
 use std::alloc::Global;
 
 /// The id of the latest snapshot of a table, 0 where no later one than the origin is there: one call of the store.
-/// Whatever others do meanwhile, the snapshots up to it were committed, and a refusal is want of memory or a fault of
-/// the store.
+/// Whatever others do meanwhile, it is that of the newest snapshot of the table at its call, so the snapshots up to it
+/// were committed; and a refusal is want of memory or a fault of the store.
 pub fn read_latest<F: FileStore>(alloc: Global, store: &mut F) -> Result<u64, Refusal>
     ensures trace { HasTrace (DidLatest result) (F.seen store.old) (F.seen store.new) }
     ensures history { FindsLatests (F.seen store.old) (F.seen store.new) result }
     ensures beside { IfOk result (λ latest. Learns AnyPast
         (λ f p. (latest ≤ greatest) × (latest ≤ count_of p.history)) (F.seen store.old) (F.seen store.new)) }
+    ensures counted { IfOk result (λ latest. Learns AnyPast (λ f p. latest ≡ count_of p.history) (F.seen store.old)
+        (F.seen store.new)) }
     ensures refused { IfErr result (λ refusal. Learns AnyPast (IsTold refusal) (F.seen store.old) (F.seen store.new)) }
     ensures later { IsLater (F.seen store.old) (F.seen store.new) }
 {

@@ -13,7 +13,7 @@ use Rattle.pm_snapshot.specs.declared.snapshot.Snapshot.{Snapshot}
 use Rattle.pm_model_folder.specs.Commits.{IsCommitted, live_in}
 use Rattle.pm_model_folder.specs.Folder.{HasTable}
 use Rattle.pm_model_folder.specs.Meaning.{HasSnapshotAt}
-use Rattle.pm_model_folder.specs.Paths.{named_origin, origin_path, snapshot_file, snapshot_folder, snapshot_path}
+use Rattle.pm_model_folder.specs.Paths.{named_origin, snapshot_file, snapshot_folder, snapshot_path}
 use Rattle.pm_model_folder.proofs.Facts.{snapshot-committed, some-none}
 use Rattle.pm_paths.specs.Ids.{IsLatest}
 use Rattle.pm_paths.proofs.ListedLemmas.{latest_is}

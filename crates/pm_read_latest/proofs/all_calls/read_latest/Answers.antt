@@ -1,7 +1,7 @@
 use Rattle.std.proofs.Common.{subst, ◌<◌}
 use Rattle.pm_read_latest.specs.Reader.{calls_left}
 use Rattle.pm_read_latest.specs.declared.phase.Phase.{Phase}
-use Rattle.pm_read_latest.proofs.BesideLemmas.{found-learned, refused-learned}
+use Rattle.pm_read_latest.proofs.BesideLemmas.{found-counted, found-learned, refused-learned}
 use Rattle.pm_read_latest.proofs.AllCallsLemmas.{now_ready, was_found, was_refused}
 use Rattle.pm_read_latest.proofs.all_calls.read_latest.Goals as goal
 
@@ -41,6 +41,12 @@ returns-in-Ok-clause-beside g c =
     let seen = g.F.FileStore.seen in
     found-learned c.past_law.ensures c.into_latest.result c.latest_reader-reader.result c.take_step.new.reader (seen c.args.store.now)
     (seen c.take_step.new.store) c.latest_reader-reader.ensures c.into_latest.ensures c.take_step.ensures.moves
+
+pub returns-in-Ok-clause-counted : goal.returns-in-Ok-clause-counted
+returns-in-Ok-clause-counted g c =
+    let seen = g.F.FileStore.seen in
+    found-counted c.past_law.ensures c.into_latest.result c.latest_reader-reader.result c.take_step.new.reader (seen c.args.store.now)
+    (seen c.take_step.new.store) c.latest_reader-reader.ensures c.into_latest.ensures (c.in-Ok.ensures.acts tt)
 
 pub returns-in-Err-clause-refused : goal.returns-in-Err-clause-refused
 returns-in-Err-clause-refused g c =
