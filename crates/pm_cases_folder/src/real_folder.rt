@@ -1,9 +1,8 @@
 //! Commands on a real folder, through two stores of it.
 
-use crate::command::run_command;
-use crate::{compactors, writers};
 use pm_cases::Case;
 use pm_cases_calls::TwoStores;
+use pm_cases_rivals::{compactors, run_command, writers};
 use pm_store::{FileStore, Made};
 
 /// What is answered of a folder, of which two stores are opened before any call.
