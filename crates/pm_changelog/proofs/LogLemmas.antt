@@ -22,7 +22,7 @@ use Rattle.pm_model_changelog.specs.Log.{AreByKey}
 use Rattle.pm_changelog.specs.GroupLog.{IsGroupLog, without_numbers, stamped_from}
 use Rattle.pm_changelog.specs.Written.{HoldsLog, IsFileOfLog, IsWrittenLog}
 use Rattle.pm_changelog.proofs.NumberLemmas.{counts-stamped, order-stamped, own-stamped, rows-stamped}
-use Rattle.pm_changelog.proofs.OrderLemmas.{AreSorted, rise-sorted, same-sorted}
+use Rattle.pm_changelog.proofs.OrderLemmas.{AreOwn, AreSorted, rise-sorted, same-sorted}
 
 -- ---- the rows that were taken
 
@@ -30,6 +30,10 @@ use Rattle.pm_changelog.proofs.OrderLemmas.{AreSorted, rise-sorted, same-sorted}
 abbrev pub OnlyByKey : Type 0
 OnlyByKey = (s : TableSchema) (rows given : List HistoryRow) → AreByKey s rows
     → ((key : Values) → rows_of (primary_of s) key rows ≡ rows_of (primary_of s) key given) → rows ≡ by_key s given
+
+own-keys : (s : TableSchema) (rows : List Stamped) → AllByRecursion (HasOwnKey s) rows → AreOwn s rows
+own-keys s [] own = tt
+own-keys s (x ∷ rows) own = (own.0.own, own-keys s rows own.1)
 
 pub log-made : (rows copies sorted : List Stamped) → copies ≡ rows → AreSorted sorted → OnlyByKey → IsStableByKey (λ (x : Stamped). x.key) key_cmp copies sorted → IsPermutation copies sorted
     → (s : TableSchema) → AllByRecursion (HasOwnKey s) rows → IsGroupLog s (by_key s (map row_of rows)) (without_numbers sorted)
@@ -39,7 +43,8 @@ log-made rows copies sorted copied rises only stable same s own =
     recursion_from_All (HasOwnKey s) sorted (All-permutation (HasOwnKey s) copies sorted same (All-from_recursion (HasOwnKey s) copies own_copies)) in
     record {
       told = rows-stamped 0 sorted
-          ∙ only s (map row_of sorted) (map row_of copies) (rise-sorted s sorted rises own_sorted) (λ key. same-sorted s copies sorted key stable own_copies own_sorted)
+          ∙ only s (map row_of sorted) (map row_of copies) (rise-sorted s sorted rises (own-keys s sorted own_sorted))
+          (λ key. same-sorted s copies sorted key stable (own-keys s copies own_copies) (own-keys s sorted own_sorted))
           ∙ ap (λ (rs : List Stamped). by_key s (map row_of rs)) copied;
       own = own-stamped s 0 sorted own_sorted;
     }

@@ -14,7 +14,6 @@ use Rattle.pm_model_history.specs.Merged.{primary_of}
 use Rattle.pm_engine.specs.Covers.{of_key, row_of}
 use Rattle.pm_engine.proofs.Rising.{of_key-sorted}
 use Rattle.pm_run.specs.Order.{are_in_order, may_follow}
-use Rattle.pm_run.specs.Writing.{HasOwnKey}
 use Rattle.pm_run.proofs.OrderLemmas.{both, in_order-first}
 use Rattle.pm_model_changelog.specs.Log.{AreByKey}
 
@@ -55,6 +54,10 @@ order-sorted (x ∷ rows) sorted = order-after x rows sorted
 
 -- ---- rows by rising key
 
+-- the key beside each row is its own
+abbrev pub AreOwn : TableSchema → List Stamped → Type 0
+AreOwn s rows = AllByRecursion (λ (x : Stamped). x.key ≡ key_of (primary_of s) x.row) rows
+
 not-greater : (o : Ordering) → not (is_gt o) ≡ true → o ≢ Greater
 not-greater Less e = λ is. cc
 not-greater Equal e = λ is. cc
@@ -78,34 +81,34 @@ module _ (s : TableSchema) where
   abbrev AreAbove : Values → List HistoryRow → Type 0
   AreAbove k rows = AllByRecursion (λ (r : HistoryRow). key_cmp k (key_of (primary_of s) r.1) ≢ Greater) rows
 
-  above : (k last : Values) (rows : List Stamped) → key_cmp k last ≢ Greater → are_in_order true (Some last) rows ≡ true → AllByRecursion (HasOwnKey s) rows
+  above : (k last : Values) (rows : List Stamped) → key_cmp k last ≢ Greater → are_in_order true (Some last) rows ≡ true → AreOwn s rows
       → AreAbove k (map row_of rows)
   above k last [] low order own = tt
   above k last (x ∷ rows) low order own =
       let parts = in_order-first true (Some last) x rows order in
       let next : key_cmp k x.key ≢ Greater = not-greater-by k last x.key low (not-greater (key_cmp last x.key) parts.0) in
-      (subst (λ q. key_cmp k q ≢ Greater) own.0.own next, above k x.key rows next parts.1 own.1)
+      (subst (λ q. key_cmp k q ≢ Greater) own.0 next, above k x.key rows next parts.1 own.1)
 
   itself : (k : Values) → key_cmp k k ≢ Greater
   itself k e =
       let back : Greater ≡ Less = sym e ∙ key_total.antisymm k k ∙ ap ordering_reverse e in cc
 
-  by-key : (before : Option Values) (rows : List Stamped) → are_in_order true before rows ≡ true → AllByRecursion (HasOwnKey s) rows → AreByKey s (map row_of rows)
+  pub by-key : (before : Option Values) (rows : List Stamped) → are_in_order true before rows ≡ true → AreOwn s rows → AreByKey s (map row_of rows)
   by-key before [] order own = tt
   by-key before (x ∷ rows) order own =
       let parts = in_order-first true before x rows order in
-      (subst (λ q. AreAbove q (map row_of rows)) own.0.own (above x.key x.key rows (itself x.key) parts.1 own.1), by-key (Some x.key) rows parts.1 own.1)
+      (subst (λ q. AreAbove q (map row_of rows)) own.0 (above x.key x.key rows (itself x.key) parts.1 own.1), by-key (Some x.key) rows parts.1 own.1)
 
-  pub rise-sorted : (rows : List Stamped) → AreSorted rows → AllByRecursion (HasOwnKey s) rows → AreByKey s (map row_of rows)
+  pub rise-sorted : (rows : List Stamped) → AreSorted rows → AreOwn s rows → AreByKey s (map row_of rows)
   rise-sorted rows sorted own = by-key None rows (order-sorted rows sorted) own
 
   -- ---- the rows of a key
 
-  key-rows : (key : Values) (rows : List Stamped) → AllByRecursion (HasOwnKey s) rows → rows_of (primary_of s) key (map row_of rows) ≡ map row_of (of_key key rows)
+  key-rows : (key : Values) (rows : List Stamped) → AreOwn s rows → rows_of (primary_of s) key (map row_of rows) ≡ map row_of (of_key key rows)
   key-rows key [] own = refl
   key-rows key (x ∷ rows) own =
       let rest = key-rows key rows own.1 in
-      ap (λ b. cond b (row_of x ∷ rows_of (primary_of s) key (map row_of rows)) (rows_of (primary_of s) key (map row_of rows))) (ap (eq_by_cmp key_cmp key) (sym own.0.own))
+      ap (λ b. cond b (row_of x ∷ rows_of (primary_of s) key (map row_of rows)) (rows_of (primary_of s) key (map row_of rows))) (ap (eq_by_cmp key_cmp key) (sym own.0))
       ∙ ap (λ rs. cond (eq_by_cmp key_cmp key x.key) (row_of x ∷ rs) rs) rest
       ∙ elim (eq_by_cmp key_cmp key x.key) as (λ b. cond b (row_of x ∷ map row_of (of_key key rows)) (map row_of (of_key key rows)) ≡ map row_of (cond b (x ∷ of_key key rows) (of_key key rows))) [
         | true ↦ refl
@@ -113,7 +116,7 @@ module _ (s : TableSchema) where
       ]
 
   pub same-sorted : (rows sorted : List Stamped) (key : Values) → IsStableByKey (λ (x : Stamped). x.key) key_cmp rows sorted
-      → AllByRecursion (HasOwnKey s) rows → AllByRecursion (HasOwnKey s) sorted
+      → AreOwn s rows → AreOwn s sorted
       → rows_of (primary_of s) key (map row_of sorted) ≡ rows_of (primary_of s) key (map row_of rows)
   same-sorted rows sorted key stable own own_too =
       key-rows key sorted own_too ∙ ap (map row_of) (of_key-sorted rows sorted key stable) ∙ sym (key-rows key rows own)
