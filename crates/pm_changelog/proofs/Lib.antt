@@ -1,4 +1,4 @@
 mod LogLemmas
 mod NumberLemmas
-mod OrderLemmas
+pub mod OrderLemmas
 mod TellLemmas
