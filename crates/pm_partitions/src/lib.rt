@@ -11,4 +11,4 @@ mod laws;
 mod limit;
 
 pub use laws::{folders_law, one_group_law, plain_names_law};
-pub use limit::{LONGEST_TEXT, exceeds_limit};
+pub use limit::{LONGEST_TEXT, exceeds_limit, is_too_long};

@@ -23,7 +23,7 @@ pub fn exceeds_limit(partition: &[Value]) -> bool
 }
 
 /// Whether the text of a value has more bytes than may be.
-fn is_too_long(value: &Value) -> bool
+pub fn is_too_long(value: &Value) -> bool
     ensures { result ≡ is_too_long value.now }
 {
     match value {

@@ -1,14 +1,17 @@
 //! The rows of a batch.
 
-ghost use Rattle.std.specs.Prelude.{◌≡◌, ◌↔◌, ◌+◌, ◌≤◌, ◌^◌, [], length, map, false, true, IfErr, IfOk, IsTrue, OnOk};
-ghost use Rattle.std.specs.List.{AllByRecursion};
+ghost use Rattle.std.specs.Prelude.{◌≡◌, ◌↔◌, ◌+◌, ◌≤◌, ◌^◌, [], length, map, false, true, All, IfErr, IfOk, IsTrue, OnOk};
+ghost use Rattle.std.specs.List.{AllByRecursion, AllZip};
+ghost use Rattle.std.specs.List.Sorted.{IsStrictlySortedBy};
+ghost use Rattle.std.specs.Map.{keys_of};
+ghost use Rattle.pm_values.specs.GroupOrder.{group_cmp};
 ghost use Rattle.pm_values.specs.declared.refusal.Refusal.TheVariants.{Memory};
 ghost use Rattle.pm_engine.specs.Covers.{row_of};
 ghost use Rattle.pm_engines.specs.TableEngine.{schema_of};
 ghost use Rattle.pm_run.specs.Writing.{CountFrom, HasOwnKey};
-ghost use Rattle.pm_write.specs.Batch.{logs_in, AreRowsOf, IsBatchOf, KeepsLog, ReadsBatch};
+ghost use Rattle.pm_write.specs.Batch.{logs_in, IsBatchOf, KeepsLog, ReadsBatch};
 ghost use Rattle.pm_write.specs.Files.{exceeds, AreNewFiles, RefusesFiles};
-ghost use Rattle.pm_write.specs.Held.{group_rows, only_group, IsHeld};
+ghost use Rattle.pm_write.specs.Held.{IsHeld, IsHeldOf, IsOwn};
 ghost use Rattle.pm_write.specs.Taken.{all_taken, IsTakenRow};
 
 use crate::files::{NewFile, exceeds, no_sequence, write_files};
@@ -17,11 +20,12 @@ use crate::taken::taken_rows;
 use pm_changelog::{GroupLog, input_log};
 use pm_engine::{reduce, stored_law};
 use pm_engines::TableEngine;
+use pm_group_rows::cut_by_group;
 use pm_input::InputLines;
 use pm_options::Producer;
 use pm_packed::PackedRows;
 use pm_schema::TableSchema;
-use pm_values::{Group, Names, Refusal, Row};
+use pm_values::{Group, Names, Refusal};
 use std::alloc::{AllocError, Global};
 use std::collections::BTreeMap;
 use std::marker::Model;
@@ -50,16 +54,15 @@ impl Model for Batch {
 
 impl Batch {
     /// The rows that the table takes of lines that aren't blank, or the first refusal: a bad line, a row that the
-    /// engine refuses, or a line for which a batch has no room. It takes time linear in the lines, but for the sort by
-    /// key. The lines are let go as their rows are taken, one half and then the other.
+    /// engine refuses or of whose partition a text is too long, or a line for which a batch has no room. It takes time
+    /// linear in the lines, but for the sort by key and for finding a row's group among those so far. The lines are let go as their rows are taken, one half and then the other.
     pub fn read(
         alloc: Global,
         schema: &TableSchema,
         engine: &TableEngine,
         lines: InputLines,
     ) -> Result<Batch, Refusal>
-        requires bucket { schema.now.options.bucket ≡ 1 }
-        requires partition { schema.now.partition ≡ [] }
+        requires some { 1 ≤ schema.now.options.bucket }
         requires own { schema_of engine.now ≡ schema.now }
         ensures { ReadsBatch schema.now result (all_taken schema.now lines) }
     {
@@ -109,30 +112,45 @@ impl Batch {
     }
 }
 
-/// The batch of rows, which are all of one group.
+/// The batch of rows.
 fn of_rows(alloc: Global, engine: &TableEngine, rows: PackedRows) -> Result<Batch, AllocError>
-    requires bucket { (schema_of engine.now).options.bucket ≡ 1 }
-    requires partition { (schema_of engine.now).partition ≡ [] }
+    requires some { 1 ≤ (schema_of engine.now).options.bucket }
     requires taken { AllByRecursion (IsTakenRow (schema_of engine.now)) rows }
     requires numbers { CountFrom 0 rows }
     ensures { IfOk result (IsBatchOf (schema_of engine.now) (map row_of rows)) }
 {
-    let mut groups = Vec::new(alloc);
-    if rows.len() == 0 {
-        return Ok(Batch { groups });
-    }
-    groups.push(held_rows(alloc, engine, rows)?)?;
+    let own = cut_by_group(alloc, engine.schema(), rows)?;
+    let groups = held_groups(alloc, engine, own)?;
     Ok(Batch { groups })
 }
 
-/// The rows of the one group, of which there are some.
-fn held_rows(alloc: Global, engine: &TableEngine, rows: PackedRows) -> Result<HeldRows, AllocError>
-    requires some { 1 ≤ length rows }
-    requires taken { AllByRecursion (IsTakenRow (schema_of engine.now)) rows }
-    requires numbers { CountFrom 0 rows }
-    ensures group { IfOk result (λ held. held.group ≡ only_group) }
-    ensures rows { IfOk result (λ held.
-        AreRowsOf (schema_of engine.now) (map row_of rows) (group_rows held).1) }
+/// The rows of groups, as they are kept.
+fn held_groups(
+    alloc: Global,
+    engine: &TableEngine,
+    groups: BTreeMap<Group, PackedRows>,
+) -> Result<Vec<HeldRows>, AllocError>
+    requires { AllByRecursion (IsOwn (schema_of engine.now)) groups.entries }
+    ensures rows { IfOk result (λ held. AllZip (IsHeldOf (schema_of engine.now)) groups.entries held.items) }
+    ensures held { IfOk result (λ held. All IsHeld held.items) }
+    ensures ordered { IsStrictlySortedBy group_cmp (keys_of groups.entries) }
+{
+    let mut held = Vec::new(alloc);
+    for (group, rows) in groups {
+        held.push(held_rows(alloc, engine, group, rows)?)?;
+    }
+    Ok(held)
+}
+
+/// The rows of a group, as they are kept.
+fn held_rows(
+    alloc: Global,
+    engine: &TableEngine,
+    group: Group,
+    rows: PackedRows,
+) -> Result<HeldRows, AllocError>
+    requires { IsOwn (schema_of engine.now) (group, rows) }
+    ensures rows { IfOk result (IsHeldOf (schema_of engine.now) (group, rows)) }
     ensures held { IfOk result IsHeld }
 {
     stored_law();
@@ -140,7 +158,7 @@ fn held_rows(alloc: Global, engine: &TableEngine, rows: PackedRows) -> Result<He
     let log = log_of(alloc, engine.schema(), &rows)?;
     let run = reduce(alloc, engine, rows)?;
     Ok(HeldRows {
-        group: only_group(alloc),
+        group,
         count,
         run,
         log,
@@ -155,15 +173,5 @@ fn log_of(alloc: Global, schema: &TableSchema, rows: &PackedRows) -> Result<Grou
     match schema.options.producer {
         Producer::Input => input_log(alloc, rows),
         _ => Ok(GroupLog::none(alloc)),
-    }
-}
-
-/// The group of all rows of a table without partition columns that has one bucket.
-fn only_group(alloc: Global) -> Group
-    ensures { result ≡ only_group }
-{
-    Group {
-        partition: Row::new(Vec::new(alloc)),
-        bucket: 0,
     }
 }

@@ -9,17 +9,43 @@ ghost use Rattle.pm_input.specs.Rows.{refusal_in};
 ghost use Rattle.pm_engine.specs.Covers.{row_of};
 ghost use Rattle.pm_engines.specs.TableEngine.{schema_of};
 ghost use Rattle.pm_run.specs.Writing.{CountFrom};
-ghost use Rattle.pm_write.specs.Taken.{all_taken, no_room, taken_by, taken_in, taken_of};
-ghost use Rattle.pm_write.specs.Taken.{IsTakenRow, stamped, with_taken};
+ghost use Rattle.pm_write.specs.Taken.{all_taken, long_partition, no_room, taken_by, taken_in, taken_of};
+ghost use Rattle.pm_write.specs.Taken.{AreKeyColumns, IsTakenRow, stamped, with_taken};
 
 use pm_engines::{TableEngine, Verdict};
+use pm_group_rows::{exceeds_partition, partition_of};
 use pm_input::{InputLine, InputLines, LIMITS, LimitKind, row_at};
 use pm_model_history::{key_of, primary_of};
 use pm_packed::PackedRows;
+use pm_partitions::LONGEST_TEXT;
 use pm_row_lines::LineReader;
 use pm_schema::TableSchema;
 use pm_values::{Kind, Refusal, Row, Stamped, Txt};
 use std::alloc::{AllocError, Global};
+
+/// The indexes of the columns of a table's primary key, and of those of its partition.
+pub(crate) struct KeyColumns {
+    pub(crate) primary: Vec<usize>,
+    pub(crate) partition: Vec<usize>,
+}
+
+impl Drop for KeyColumns {
+    fn drop(self) {
+        let KeyColumns { primary, partition } = self;
+    }
+}
+
+impl KeyColumns {
+    /// Those of a table.
+    fn of_schema(alloc: Global, schema: &TableSchema) -> Result<KeyColumns, AllocError>
+        ensures { IfOk result (AreKeyColumns schema.now) }
+    {
+        Ok(KeyColumns {
+            primary: primary_of(alloc, schema)?,
+            partition: partition_of(alloc, schema)?,
+        })
+    }
+}
 
 /// The rows that the table takes of the lines, with their keys, their numbers counted from 0. The first half of the
 /// lines is let go before the rows of the later one are taken.
@@ -35,7 +61,7 @@ pub(crate) fn taken_rows(
     ensures taken { IfOk result (λ rows. AllByRecursion (IsTakenRow schema.now) rows) }
     ensures numbers { IfOk result (λ rows. CountFrom 0 rows) }
 {
-    let primary = primary_of(alloc, schema)?;
+    let columns = KeyColumns::of_schema(alloc, schema)?;
     let mut reader = LineReader::new(alloc);
     let mut rows = PackedRows::new(alloc);
     let (first, later) = lines.halves()?;
@@ -44,7 +70,7 @@ pub(crate) fn taken_rows(
         &mut reader,
         schema,
         engine,
-        &primary,
+        &columns,
         &first,
         LIMITS.rows,
         &mut rows,
@@ -55,7 +81,7 @@ pub(crate) fn taken_rows(
         &mut reader,
         schema,
         engine,
-        &primary,
+        &columns,
         &later,
         room,
         &mut rows,
@@ -69,13 +95,13 @@ fn take_lines(
     reader: &mut LineReader,
     schema: &TableSchema,
     engine: &TableEngine,
-    primary: &[usize],
+    columns: &KeyColumns,
     lines: &InputLines,
     room: usize,
     rows: &mut PackedRows,
 ) -> Result<usize, Refusal>
     requires own { schema_of engine.now ≡ schema.now }
-    requires primary { primary.now ≡ primary_of schema.now }
+    requires columns { AreKeyColumns schema.now columns.now }
     ensures more { IfOk result (λ left. (later : List (ℕ × List ℕ)) →
         with_taken (map row_of rows.new) (taken_in schema.now left later)
         ≡ with_taken (map row_of rows.old) (taken_in schema.now room (lines.now ++ later))) }
@@ -91,7 +117,7 @@ fn take_lines(
         if room == 0 {
             return Err(no_room(alloc)?);
         }
-        take_line(alloc, reader, schema, engine, primary, &line, rows)?;
+        take_line(alloc, reader, schema, engine, columns, &line, rows)?;
         room -= 1;
     }
     Ok(room)
@@ -108,18 +134,28 @@ fn no_room(alloc: Global) -> Result<Refusal, AllocError>
     })
 }
 
+/// The refusal of a row of whose partition a value has too long a text.
+fn long_partition(alloc: Global) -> Result<Refusal, AllocError>
+    ensures { IfOk result (λ e. e ≡ long_partition) }
+{
+    Ok(Refusal::Limit {
+        which: Txt::from_str(alloc, "partition")?,
+        number: LONGEST_TEXT as u64,
+    })
+}
+
 /// Takes the row of a line, where the table does.
 fn take_line(
     alloc: Global,
     reader: &mut LineReader,
     schema: &TableSchema,
     engine: &TableEngine,
-    primary: &[usize],
+    columns: &KeyColumns,
     line: &InputLine,
     rows: &mut PackedRows,
 ) -> Result<(), Refusal>
     requires own { schema_of engine.now ≡ schema.now }
-    requires primary { primary.now ≡ primary_of schema.now }
+    requires columns { AreKeyColumns schema.now columns.now }
     ensures exact { Gives (λ _. map row_of rows.new) refusal_in result
         (with_taken (map row_of rows.old) (taken_of schema.now (line_view line.now))) }
     ensures taken { OnOk result (AllByRecursion (IsTakenRow schema.now) rows.old
@@ -128,7 +164,12 @@ fn take_line(
 {
     let (kind, row) = row_at(alloc, reader, schema.columns.as_slice(), line)?;
     match engine.verdict(alloc, kind)? {
-        Verdict::Take => Ok(keep(alloc, primary, rows, kind, row)?),
+        Verdict::Take => {
+            if exceeds_partition(&columns.partition, row.values()) {
+                return Err(long_partition(alloc)?);
+            }
+            Ok(keep(alloc, &columns.primary, rows, kind, row)?)
+        }
         Verdict::Ignore => Ok(()),
         Verdict::Refuse(column) => Err(Refusal::Retraction {
             line: line.number,
