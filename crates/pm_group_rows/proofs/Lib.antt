@@ -1,0 +1,2 @@
+mod BucketLemmas
+mod CutLemmas

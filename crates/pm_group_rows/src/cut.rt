@@ -100,5 +100,6 @@ fn put_row(
         seq,
         kind,
         row,
-    })
+    })?;
+    Ok(())
 }
