@@ -1,5 +1,6 @@
 mod AfterLemmas
 mod AllCallsLemmas
+mod AskedLemmas
 mod BesideLemmas
 mod CauseLemmas
 pub mod Facts

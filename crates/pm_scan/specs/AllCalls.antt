@@ -43,6 +43,12 @@ abbrev pub Ends : AskedRows → Result (List ℕ) Refusal → List Event → Typ
 Ends a (Ok text) own = (id : ℕ) × HasScan a id text own
 Ends a (Err refusal) own = Shows a refusal own
 
+-- a refusal that names a snapshot names the one that is asked for, if one is
+abbrev pub NamesAsked : Option ℕ → Refusal → Type 0
+NamesAsked at (refusals.NoSnapshot id latest) = at ≡ Some id
+NamesAsked at (refusals.Expired id) = (asked : ℕ) → at ≡ Some asked → id ≡ asked
+NamesAsked at other = Unit {0}
+
 abbrev pub DidScan : TableSchema → Option ℕ → Result (List ℕ) Refusal → List Event → Type 0
 DidScan s at result own = (earlier later : List Event) × Has s earlier × (own ≡ earlier ++ later)
     × Ends (asked_at s at) result later

@@ -1,13 +1,13 @@
 //! All calls of a scanner of a table whose schema was read, one after another.
 
-ghost use Rattle.std.specs.Prelude.{◌≡◌, ◌<◌, IfErr, IfOk};
+ghost use Rattle.std.specs.Prelude.{◌≡◌, ◌<◌, IfErr, IfOk, Some};
 ghost use Rattle.pm_machine.specs.Trace.{HasTrace};
 ghost use Rattle.pm_engines.specs.TableEngine.{HasEngine};
 ghost use Rattle.pm_schema.specs.Again.{IsDeclared};
 ghost use Rattle.pm_store.specs.Store.{StoreView, IsLater};
 ghost use Rattle.pm_read_schema.specs.Beside.{IsTold, Learns};
 ghost use Rattle.pm_read_table.specs.declared.phase.Phase.TheVariants as readers;
-ghost use Rattle.pm_scan.specs.AllCalls.{text_in, DidScan, Ends, Has, ScansTables};
+ghost use Rattle.pm_scan.specs.AllCalls.{text_in, DidScan, Ends, Has, NamesAsked, ScansTables};
 ghost use Rattle.pm_scan.specs.Asked.{AskedRows, asked_at, passed_at};
 ghost use Rattle.pm_scan.specs.Beside.{PassesBeside, ScansBeside, ScansOn, TellsBeside};
 ghost use Rattle.pm_scan.specs.Meaning.{Knows};
@@ -30,7 +30,7 @@ use std::alloc::Global;
 /// after another. It gives the text. What it promises is said of these calls, and from whatever moment on that reading
 /// began. Whatever others do meanwhile, the text is the scan of the table at the snapshot that the calls read, and a
 /// refusal tells what is so at the call that shows it: `Expired` comes only where that snapshot has gone, and `Damaged`
-/// never does.
+/// never does. A snapshot that a refusal names is the one that is asked for, if one is.
 pub fn scan_table<F: FileStore>(
     alloc: Global,
     schema: TableSchema,
@@ -46,6 +46,7 @@ pub fn scan_table<F: FileStore>(
         → ScansTables schema at first (F.seen store.new) (text_in result) }
     ensures beside { IfOk result (λ text. ScansBeside schema at text.items (F.seen store.old) (F.seen store.new)) }
     ensures refused { IfErr result (λ refusal. TellsBeside schema refusal (F.seen store.old) (F.seen store.new)) }
+    ensures named { IfErr result (NamesAsked at) }
     ensures later { IsLater (F.seen store.old) (F.seen store.new) }
 {
     all_calls_law();
@@ -54,7 +55,8 @@ pub fn scan_table<F: FileStore>(
 
 /// Reads the rows that are passed on at the snapshot with that id of the table whose schema was just read, and gives
 /// the text of their scan. What it promises is said of these calls. Whatever others do meanwhile, the text is the scan
-/// of these rows at the snapshot that the calls read, and a refusal tells what is so at the call that shows it.
+/// of these rows at the snapshot that the calls read, and a refusal tells what is so at the call that shows it, of that
+/// snapshot.
 pub fn scan_passed<F: FileStore>(
     alloc: Global,
     schema: TableSchema,
@@ -66,6 +68,7 @@ pub fn scan_passed<F: FileStore>(
     ensures own { HasTrace (Ends (passed_at schema id) (text_in result)) (F.seen store.old) (F.seen store.new) }
     ensures beside { IfOk result (λ text. PassesBeside schema id text.items (F.seen store.old) (F.seen store.new)) }
     ensures refused { IfErr result (λ refusal. TellsBeside schema refusal (F.seen store.old) (F.seen store.new)) }
+    ensures named { IfErr result (NamesAsked (Some id)) }
     ensures later { IsLater (F.seen store.old) (F.seen store.new) }
 {
     make_calls(alloc, passed_scan(schema, id), store)

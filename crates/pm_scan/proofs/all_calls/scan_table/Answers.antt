@@ -5,6 +5,7 @@ use Rattle.pm_scan.specs.Asked.{asked_at}
 use Rattle.pm_scan.specs.Trace.{Did}
 use Rattle.pm_scan.specs.declared.phase.Phase.{Phase}
 use Rattle.pm_scan.specs.declared.rows.Rows.TheVariants as shown
+use Rattle.pm_scan.proofs.AskedLemmas.{names-asked}
 use Rattle.pm_scan.proofs.BesideLemmas.{learned-by, refused-by}
 use Rattle.pm_scan.proofs.AllCallsLemmas.{begins, begun, first_left, went_on}
 use Rattle.pm_scan.proofs.all_calls.scan_table.Goals as goal
@@ -50,3 +51,11 @@ returns-clause-refused g c =
     let seen = g.F.FileStore.seen in
     refused-by shown.All c.args.schema c.args.at c.scanner_of.result c.make_calls.result (seen c.args.store.now) (seen c.make_calls.new.store)
     c.scanner_of.ensures c.make_calls.ensures.refused
+
+pub returns-clause-named : goal.returns-clause-named
+returns-clause-named g c =
+    let seen = g.F.FileStore.seen in
+    let a = asked_at c.args.schema c.args.at in
+    let own = subst (λ (m : Phase). HasTrace (Did a m) (seen c.args.store.now) (seen c.args.store.now)) (sym c.scanner_of.ensures) (begun a (seen c.args.store.now) (begins c.args.at)) in
+    names-asked shown.All c.args.schema c.args.at c.make_calls.result (seen c.args.store.now) (seen c.make_calls.new.store)
+    (c.make_calls.ensures.trace a (seen c.args.store.now) own)
