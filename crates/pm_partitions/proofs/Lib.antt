@@ -3,6 +3,6 @@ mod Escapes
 mod Groups
 mod Lengths
 mod Names
-mod Plain
+pub mod Plain
 mod Tests
 mod Texts
