@@ -1,2 +1,3 @@
 mod BucketLemmas
 mod CutLemmas
+mod FolderLemmas

@@ -5,5 +5,6 @@ mod LawLemmas
 mod ListLemmas
 mod LogLemmas
 mod NumberLemmas
+mod RoomLemmas
 mod RunLemmas
 mod TakenLemmas

@@ -45,10 +45,10 @@ pub record AreHeld (held : List HeldRows) : Type 0 where
   pub ordered : IsStrictlySortedBy group_cmp (keys_of (all_groups held))
 
 -- rows of a group, before they are kept: some, which were taken, their numbers counted from 0
-pub record IsOwn (s : TableSchema) (e : Group × Run) : Type 0 where
-  pub some : 1 ≤ length e.1
-  pub taken : AllByRecursion (IsTakenRow s) e.1
-  pub numbers : CountFrom 0 e.1
+pub record IsOwn (s : TableSchema) (own : Run) : Type 0 where
+  pub some : 1 ≤ length own
+  pub taken : AllByRecursion (IsTakenRow s) own
+  pub numbers : CountFrom 0 own
 
 -- they are kept as what they become
 pub record IsHeldOf (s : TableSchema) (e : Group × Run) (h : HeldRows) : Type 0 where

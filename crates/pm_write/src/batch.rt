@@ -1,10 +1,12 @@
 //! The rows of a batch.
 
-ghost use Rattle.std.specs.Prelude.{◌≡◌, ◌↔◌, ◌+◌, ◌≤◌, ◌^◌, [], length, map, false, true, All, IfErr, IfOk, IsTrue, OnOk};
+ghost use Rattle.std.specs.Prelude.{◌≡◌, ◌↔◌, ◌+◌, ◌≤◌, ◌^◌, [], length, map, false, true, All, IfErr, IfOk, IfSome, IsTrue, OnOk};
+ghost use Rattle.std.specs.BTreeMap.{get_by};
 ghost use Rattle.std.specs.List.{AllByRecursion, AllZip};
 ghost use Rattle.std.specs.List.Sorted.{IsStrictlySortedBy};
 ghost use Rattle.std.specs.Map.{keys_of};
 ghost use Rattle.pm_values.specs.GroupOrder.{group_cmp};
+ghost use Rattle.pm_values.specs.declared.group.Group.{Group as GroupView};
 ghost use Rattle.pm_values.specs.declared.refusal.Refusal.TheVariants.{Memory};
 ghost use Rattle.pm_engine.specs.Covers.{row_of};
 ghost use Rattle.pm_engines.specs.TableEngine.{schema_of};
@@ -130,7 +132,7 @@ fn held_groups(
     engine: &TableEngine,
     groups: BTreeMap<Group, PackedRows>,
 ) -> Result<Vec<HeldRows>, AllocError>
-    requires { AllByRecursion (IsOwn (schema_of engine.now)) groups.entries }
+    requires { (g : GroupView) → IfSome (get_by (group_cmp g) groups) (IsOwn (schema_of engine.now)) }
     ensures rows { IfOk result (λ held. AllZip (IsHeldOf (schema_of engine.now)) groups.entries held.items) }
     ensures held { IfOk result (λ held. All IsHeld held.items) }
     ensures ordered { IsStrictlySortedBy group_cmp (keys_of groups.entries) }
@@ -149,7 +151,7 @@ fn held_rows(
     group: Group,
     rows: PackedRows,
 ) -> Result<HeldRows, AllocError>
-    requires { IsOwn (schema_of engine.now) (group, rows) }
+    requires { IsOwn (schema_of engine.now) rows }
     ensures rows { IfOk result (IsHeldOf (schema_of engine.now) (group, rows)) }
     ensures held { IfOk result IsHeld }
 {

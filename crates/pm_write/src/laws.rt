@@ -22,6 +22,7 @@ ghost use Rattle.pm_write.specs.Taken.{all_taken};
 ghost use Rattle.pm_write.specs.declared.files.NewFile.{NewFile as FileView};
 
 use pm_changelog::group_log_law;
+use pm_group_rows::groups_law;
 use pm_model_changelog::by_key_law;
 
 /// No rows have the batch without groups, and only they. The run of a group covers the group's rows, whatever number
@@ -54,6 +55,7 @@ pub fn batch_law()
         s.options.producer ≢ producers.Input → IsBatchOf s rows batch → logs_in batch ≡ [] }
 {
     by_key_law();
+    groups_law();
 }
 
 /// The new file of a group of a batch, whose rows are counted from a number that is small enough, is read as these rows
