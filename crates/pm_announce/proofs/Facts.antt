@@ -26,17 +26,19 @@ use Rattle.pm_machine.proofs.PhaseFacts.{both_if}
 use Rattle.pm_model_folder.specs.Changes.{Actor}
 use Rattle.pm_model_folder.specs.Ledger.{Advances, Past, Stands}
 use Rattle.pm_model_folder.specs.Paths.{floor_path}
-use Rattle.pm_read_schema.specs.Beside.{IsTold}
+use Rattle.pm_read_schema.proofs.Facts.{list_effect}
 use Rattle.pm_consumers.specs.Lister as consumers
 use Rattle.pm_consumers.specs.Trace as consumers_trace
 use Rattle.pm_consumers.specs.declared.phase.Phase as consuming
 use Rattle.pm_consumers.specs.declared.phase.Phase.TheVariants as consumer_listers
 use Rattle.pm_consumers.proofs.Facts as consumers_facts
 use Rattle.pm_read_expiry.specs.declared.asking.Found.{Found}
-use Rattle.pm_announce.specs.Announcer.{announce_call, calls_left, end_after, next_call, reached_at, AfterConsumers, Goes, Reaches, Shown}
-use Rattle.pm_announce.specs.Announcer.{all_consumers, more_consumers}
-use Rattle.pm_announce.specs.Meaning.{Announces, AnnouncerTold, Beside, Knows, KnowsBeside, KnowsFloor, KnowsOf, KnowsReading, Makes, MakesBeside, StandsBeside, TellsBeside}
-use Rattle.pm_announce.specs.Trace.{announces, Did, HasFloor, Shows}
+use Rattle.pm_announce.specs.Announcer.{announce_call, announced_of, calls_left, end_after, next_call, reached_at, tags_call, AfterConsumers, AfterEnd, Goes, IsAnnouncer, Reaches, Shown}
+use Rattle.pm_announce.specs.Announcer.{all_consumers, more_consumers, none_goes, some_goes}
+use Rattle.pm_announce.specs.Meaning.{Announces, AnnouncerTold, Beside, IsTold, Knows, KnowsEnd, KnowsBeside, KnowsFloor, KnowsOf, KnowsReading, Makes, MakesBeside, StandsBeside, TellsBeside}
+use Rattle.pm_announce.specs.Tags.{first_tag, tag_folder}
+use Rattle.pm_announce.specs.Trace.{announces, Did, HasFloor, HasRead, IsToList, Shows}
+use Rattle.pm_announce.specs.declared.phase.Announced.{Announced}
 use Rattle.pm_announce.specs.declared.phase.Phase.{Phase}
 use Rattle.pm_announce.specs.declared.phase.Phase.TheVariants as phases
 use Rattle.pm_announce.proofs.KnowsLemmas.{Laws, Stay, all_known, appears, end_still, floor_known, floor_still, of_still, reading_next, rests}
@@ -75,6 +77,7 @@ module _ (laws : Laws) (me : Actor) (f : Files) (p : Past) (stands : Stands f p)
       (λ content absent. (p, floor_appears x content known absent))
   changes_at (phases.Consumers x c) known = IfSome_then (consumers.next_call c) (consumers_facts.spares c f)
       (λ call same effect. (p, record { files = λ q. ap (λ (g : Files). map.get g q) (same effect); past = refl }))
+  changes_at (phases.Tags a) known = λ effect. (p, record { files = λ q. ap (λ (g : Files). map.get g q) (list_effect tag_folder effect f); past = refl })
   changes_at (phases.Announced a) known = tt
   changes_at phases.Over known = tt
 
@@ -99,9 +102,14 @@ module _ (laws : Laws) (me : Actor) (f : Files) (p : Past) (stands : Stands f p)
       there (floor_path x.end) f (λ g. Leads (Makes me (phases.Announce x)) (Knows (phases.Consumers x consumer_listers.List)) f p g)
       (λ here. (p, rests me x f f p (λ q. refl), floor_known laws x f p stands known here)) (floor_made x known) (map.get f (floor_path x.end)) refl
 
+  end_known : (a : Announced) (new : Phase) → AfterEnd a new → KnowsEnd a.found a.end f p → Knows new f p
+  end_known a new (none_goes none is) known = subst (λ (m : Phase). Knows m f p) (sym is) known
+  end_known a new (some_goes some is) known = subst (λ (m : Phase). Knows m f p) (sym is) known
+
   after_known : (x : Found) (to : consuming.Phase) (new : Phase) → AfterConsumers x to new → KnowsFloor x to f p → Knows new f p
   after_known x to new (more_consumers more is) known = subst (λ (m : Phase). Knows m f p) (sym is) known
-  after_known x to new (all_consumers next done least is) known = subst (λ (m : Phase). Knows m f p) (sym is) (all_known x to next f p done least known)
+  after_known x to new (all_consumers next done least end) known =
+      end_known (announced_of x (end_after x next)) new end (all_known x to next f p done least known)
 
   -- where the files are the same
   kept : (x : Found) (c : consuming.Phase) (new : Phase) (after : Files) → after ≡ f → Knows new f p
@@ -122,6 +130,8 @@ module _ (laws : Laws) (me : Actor) (f : Files) (p : Past) (stands : Stands f p)
     where
       more : KnowsReading x to f p → KnowsFloor x to f p
       more reading = record { of = known.of; announced = known.announced; reading = reading }
+  went_at (phases.Tags a) (answers.Listed files) new (none, is) known = λ told.
+      (p, record { files = λ q. refl; past = refl }, subst (λ (m : Phase). Knows m f p) (sym is) known)
   went_at m answer new goes known = absurd goes
 
   over_knows : (new : Phase) (after : Files) (later : Past) → new ≡ phases.Over → Knows new after later
@@ -201,13 +211,20 @@ floor_with x P Q own event has more = record {
 floor_so : (x : Found) (P Q : List Event → Type 0) (own : List Event) → (has : HasFloor x P own) → Q has.rest → HasFloor x Q own
 floor_so x P Q own has more = record { answer = has.answer; rest = has.rest; then_consumers = more; is = has.is }
 
+-- the end is known
+end_did : (x : Found) (a : Announced) (new : Phase) (own : List Event) → AfterEnd a new → a.found ≡ x → HasRead x a.end own → Did x new own
+end_did x a new own (none_goes none is) same read =
+    subst (λ (m : Phase). Did x m own) (sym is) (same, inl (none ∙ ap (λ (z : Found). z.first) same, read))
+end_did x a new own (some_goes some is) same read =
+    subst (λ (m : Phase). Did x m own) (sym is) (same, (subst (λ (z : Found). z.first < a.end) same some, read))
+
 after_did : (x y : Found) (to : consuming.Phase) (new : Phase) (own : List Event) → y ≡ x → AfterConsumers y to new → HasFloor x (consumers_trace.Did to) own
     → Did x new own
 after_did x y to new own same (more_consumers more is) has = subst (λ (m : Phase). Did x m own) (sym is) (same, has)
-after_did x y to new own same (all_consumers next done least is) has =
+after_did x y to new own same (all_consumers next done least end) has =
     let cs = consumers.consumers_in to in
     let read = floor_so x (consumers_trace.Did to) (consumers_trace.HasListed cs) own has (consumers_facts.listed_all to has.rest done has.then_consumers) in
-    subst (λ (m : Phase). Did x m own) (sym is) (same, (cs, next, least, ap (λ (z : Found). end_after z next) same, read))
+    end_did x (announced_of y (end_after y next)) new own end same (cs, next, least, ap (λ (z : Found). end_after z next) same, read)
 
 went_on : (x : Found) (m : Phase) (answer : Answer) (new : Phase) (own : List Event) → Goes m answer new → Did x m own
     → IfSome (next_call m) (λ call. MayAnswer call answer → Did x new (own ++ answered call answer ∷ []))
@@ -221,13 +238,24 @@ went_on x (phases.Consumers y c) answer new own (to, on, after) (same, has) =
     IfSome_then (consumers.next_call c) (consumers_facts.recounts.went c to answer has.rest on has.then_consumers)
     (λ call did may. after_did x y to new (own ++ answered call answer ∷ []) same after
     (floor_with x (consumers_trace.Did c) (consumers_trace.Did to) own (answered call answer) has (did may)))
+went_on x (phases.Tags a) (answers.Listed files) new own (none, is) (same, to_list) = λ may.
+    subst (λ (m : Phase). Did x m (own ++ answered tags_call (answers.Listed files) ∷ [])) (sym is)
+    (same, inr (record { earlier = own; files = files; to_list = to_list; first = none; is = refl }))
 went_on x m answer new own goes did = absurd goes
 
 refused_on : (x : Found) (m : Phase) (answer : Answer) (refusal : Refusal) (own : List Event) → Shown m answer refusal → Did x m own
     → IfSome (next_call m) (λ call. MayAnswer call answer → Shows x refusal (own ++ answered call answer ∷ []))
 refused_on x (phases.Consumers y c) answer refusal own shown (same, has) =
     IfSome_then (consumers.next_call c) (consumers_facts.recounts.refused c consumer_listers.Over answer refusal has.rest (shown, refl) has.then_consumers)
-    (λ call shows may. inr (floor_with x (consumers_trace.Did c) (consumers_trace.Shows refusal) own (answered call answer) has (shows may).1))
+    (λ call shows may. inr (inl (floor_with x (consumers_trace.Did c) (consumers_trace.Shows refusal) own (answered call answer) has (shows may).1)))
+refused_on x (phases.Tags a) (answers.Listed files) refusal own (inl memory) (same, to_list) = λ may.
+    let own_then : List Event = own ++ answered tags_call (answers.Listed files) ∷ [] in
+    subst (λ (refusal : Refusal). Shows x refusal own_then) (sym memory)
+    (inr (inr (a.end, inr (first_tag files.items, record { earlier = own; files = files; to_list = to_list; first = refl; is = refl }))))
+refused_on x (phases.Tags a) (answers.Listed files) refusal own (inr (name, first, is)) (same, to_list) = λ may.
+    let own_then : List Event = own ++ answered tags_call (answers.Listed files) ∷ [] in
+    subst (λ (refusal : Refusal). Shows x refusal own_then) (sym is)
+    (inr (inr (refl, (a.end, record { earlier = own; files = files; to_list = to_list; first = first; is = refl }))))
 refused_on x m answer refusal own shown did = absurd shown
 
 failed_on : (x : Found) (m : Phase) (own : List Event) → Did x m own
@@ -238,8 +266,9 @@ failed_on x (phases.Announce y) own (same, none) = inl (
 )
 failed_on x (phases.Consumers y c) own (same, has) =
     IfSome_then (consumers.next_call c) (consumers_facts.recounts.failed c consumer_listers.Over has.rest refl has.then_consumers)
-    (λ call shows. inr
-    (floor_with x (consumers_trace.Did c) (consumers_trace.Shows (refusals.StoreFault (path_of call))) own (faulted call) has shows.1))
+    (λ call shows. inr (inl
+    (floor_with x (consumers_trace.Did c) (consumers_trace.Shows (refusals.StoreFault (path_of call))) own (faulted call) has shows.1)))
+failed_on x (phases.Tags a) own (same, to_list) = inr (inr (a.end, own, to_list, refl, refl))
 failed_on x (phases.Announced a) own did = tt
 failed_on x phases.Over own did = tt
 
@@ -247,7 +276,8 @@ stopped_on : (x : Found) (m : Phase) (own : List Event) → IsSome (next_call m)
 stopped_on x (phases.Announce y) own called (same, none) = inl none
 stopped_on x (phases.Consumers y c) own called (same, has) =
     let shows = (consumers_facts.recounts.stopped c consumer_listers.Over has.rest called refl has.then_consumers).1 in
-    inr (floor_so x (consumers_trace.Did c) (consumers_trace.Shows refusals.Memory) own has shows)
+    inr (inl (floor_so x (consumers_trace.Did c) (consumers_trace.Shows refusals.Memory) own has shows))
+stopped_on x (phases.Tags a) own called (same, to_list) = inr (inr (a.end, inl to_list))
 stopped_on x (phases.Announced a) own called did = absurd (let clash = called in cc)
 stopped_on x phases.Over own called did = absurd (let clash = called in cc)
 
@@ -266,41 +296,42 @@ recounts x = record {
 
 -- ---- how far it has come
 
-left_some : {X : Type 0} (n : ℕ) → (X → ⊥) → X ⊎ (0 < n) → 0 < n
-left_some n not (inl so) = absurd (not so)
-left_some n not (inr some) = some
-
 abbrev IsAhead : ℕ → Phase → Type 0
 IsAhead n m = (calls_left m < n) × Reaches (reached_at m) m × Unit {0}
 
-after_ahead : (x : Found) (n : ℕ) (to : consuming.Phase) (new : Phase) → consumers.calls_left to < n → consumers.IsDone to ⊎ (0 < consumers.calls_left to)
-    → AfterConsumers x to new → IsAhead n new
-after_ahead x n to new fewer left (more_consumers more is) =
-    subst (IsAhead n) (sym is) (fewer, left_some (consumers.calls_left to) more left, tt)
-after_ahead x n to new fewer left (all_consumers next done least is) = subst (IsAhead n) (sym is) (omega (arith, fewer), tt, tt)
+end_ahead : (a : Announced) (n : ℕ) (new : Phase) → 0 < n → AfterEnd a new → IsAhead (n + 1) new
+end_ahead a n new some (none_goes none is) = subst (IsAhead (n + 1)) (sym is) (omega arith, tt, tt)
+end_ahead a n new some (some_goes goes is) = subst (IsAhead (n + 1)) (sym is) (omega (arith, some), omega arith, tt)
+
+after_ahead : (x : Found) (n : ℕ) (to : consuming.Phase) (new : Phase) → consumers.calls_left to < n → AfterConsumers x to new → IsAhead (n + 1) new
+after_ahead x n to new fewer (more_consumers more is) = subst (IsAhead (n + 1)) (sym is) (omega (arith, fewer), omega arith, tt)
+after_ahead x n to new fewer (all_consumers next done least end) =
+    end_ahead (announced_of x (end_after x next)) n new (omega (arith, fewer)) end
 
 -- an answer that it goes on with leaves fewer calls
 pub goes : (m : Phase) (answer : Answer) (new : Phase) → Goes m answer new
     → (calls_left new < calls_left m) × Reaches (reached_at new) new × Unit {0}
 goes (phases.Announce x) (answers.Made answer) new is =
-    subst (IsAhead (consumers.calls_left consumer_listers.List + 1)) (sym is) (omega arith, omega arith, tt)
+    subst (IsAhead (consumers.calls_left consumer_listers.List + 2)) (sym is) (omega arith, omega arith, tt)
 goes (phases.Consumers x c) answer new (to, on, after) =
-    let ahead = consumers_facts.goes_ahead c answer to on in
-    after_ahead x (consumers.calls_left c) to new ahead.0 ahead.1 after
+    after_ahead x (consumers.calls_left c) to new (consumers_facts.goes_ahead c answer to on).0 after
+goes (phases.Tags a) (answers.Listed files) new (none, is) = subst (IsAhead 1) (sym is) (omega arith, tt, tt)
 goes m answer new on = absurd on
 
 -- an announcer with calls left has a next one
-pub has_call : (m : Phase) → 0 < calls_left m → IsSome (next_call m)
-has_call (phases.Announce x) left = refl
-has_call (phases.Consumers x c) left = consumers_facts.has_call c left
-has_call (phases.Announced a) left = absurd (let none : 0 < 0 = left in omega (arith, none))
-has_call phases.Over left = absurd (let none : 0 < 0 = left in omega (arith, none))
+pub has_call : (m : Phase) → IsAnnouncer m → 0 < calls_left m → IsSome (next_call m)
+has_call (phases.Announce x) is left = refl
+has_call (phases.Consumers x c) is left = consumers_facts.has_call c is.1
+has_call (phases.Tags a) is left = refl
+has_call (phases.Announced a) is left = absurd (let none : 0 < 0 = left in omega (arith, none))
+has_call phases.Over is left = absurd (let none : 0 < 0 = left in omega (arith, none))
 
 -- ---- laws
 
 pub knows_still : Stay → (m : Phase) (other : Actor) (f after : Files) (p q : Past) → Stands f p → Advances other f p after q → Knows m f p → Knows m after q
 knows_still laws (phases.Announce x) other f after p q stands advances known = of_still laws.found x other f after p q stands advances known
 knows_still laws (phases.Consumers x c) other f after p q stands advances known = floor_still laws other f after p q stands advances x c known
+knows_still laws (phases.Tags a) other f after p q stands advances known = end_still laws other f after p q stands advances a.found a.end known
 knows_still laws (phases.Announced a) other f after p q stands advances known = end_still laws other f after p q stands advances a.found a.end known
 knows_still laws phases.Over other f after p q stands advances known = tt
 

@@ -1,3 +1,4 @@
 pub mod Announcer
 pub mod Meaning
+pub mod Tags
 pub mod Trace

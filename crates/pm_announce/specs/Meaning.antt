@@ -1,7 +1,8 @@
 -- What an announcer knows of the table, whatever others do, and what its steps mean for the files.
-use Rattle.std.specs.Prelude.{◌≡◌, ◌≢◌, ℕ, List, [], ◌∷◌, drop, min}
+use Rattle.std.specs.Prelude.{◌≡◌, ◌≢◌, ℕ, List, [], ◌∷◌, codes, drop, min, Some}
 use Rattle.std.specs.FinMap as map
 use Rattle.pm_values.specs.declared.refusal.Refusal.{Refusal}
+use Rattle.pm_values.specs.declared.refusal.Refusal.TheVariants as refusals
 use Rattle.pm_store.specs.Files.{Files}
 use Rattle.pm_store.specs.Store.{StoreView}
 use Rattle.pm_machine.specs.Moves.{IsKept, Moves}
@@ -10,12 +11,12 @@ use Rattle.pm_model_folder.specs.Ledger.{Advances, Past, Stands}
 use Rattle.pm_model_folder.specs.Paths.{floor_path}
 use Rattle.pm_model_expiry.specs.Expiry.{HasAnnounced, HasLeft}
 use Rattle.pm_consumer_files.specs.declared.lines.NamedConsumer.{NamedConsumer}
-use Rattle.pm_read_schema.specs.Beside.{IsTold}
 use Rattle.pm_consumers.specs.declared.phase.Phase as consuming
 use Rattle.pm_consumers.specs.declared.phase.Phase.TheVariants as consumer_listers
 use Rattle.pm_read_expiry.specs.Meaning.{KnowsFound}
 use Rattle.pm_read_expiry.specs.declared.asking.Found.{Found}
 use Rattle.pm_announce.specs.Announcer.{IsToAnnounce}
+use Rattle.pm_announce.specs.Tags.{IsFirstTag}
 use Rattle.pm_announce.specs.declared.phase.Phase.{Phase}
 use Rattle.pm_announce.specs.declared.phase.Phase.TheVariants as phases
 
@@ -65,8 +66,21 @@ pub record KnowsEnd (x : Found) (end : ℕ) (f : Files) (p : Past) : Type 0 wher
 abbrev pub Knows : Phase → Files → Past → Type 0
 Knows (phases.Announce x) f p = KnowsOf x f p
 Knows (phases.Consumers x c) f p = KnowsFloor x c f p
+Knows (phases.Tags a) f p = KnowsEnd a.found a.end f p
 Knows (phases.Announced a) f p = KnowsEnd a.found a.end f p
 Knows phases.Over f p = Unit {0}
+
+-- The refusals that answers show where the files stand, whatever others do: a tag is there, which constrains nothing of
+-- what they stand for; or memory ran out.
+abbrev pub MayRefuse : Files → Refusal → Type 0
+MayRefuse f refusals.Memory = Unit {0}
+MayRefuse f (refusals.Unsupported what text) = (what ≡ codes "tag") × IsFirstTag f (Some text)
+MayRefuse f other = ⊥
+
+-- what is told of a step that is refused: where the store failed nothing, and else that
+abbrev pub IsTold : Refusal → Files → Past → Type 0
+IsTold (refusals.StoreFault path) f p = Unit {0}
+IsTold other f p = MayRefuse f other
 
 -- Whoever announces: a step makes one of these changes, or none, and what the announcer knows holds after it.
 abbrev pub AnnouncerMoved : Phase → Phase → StoreView → StoreView → Type 0

@@ -17,14 +17,14 @@ use pm_store::FileStore;
 use pm_values::Refusal;
 use std::alloc::Global;
 
-/// What a step of an announcer reached: it goes on, or the consumers were read again.
+/// What a step of an announcer reached: it goes on, or the end is known.
 #[derive(Clone, Copy)]
 pub enum AnnounceStep {
     More,
     Ready,
 }
 
-/// Announces an expiry and reads the consumers again, a call of the store a step.
+/// Announces an expiry, reads the consumers again and lists the tags, a call of the store a step.
 pub type Announcer = Running<Phase>;
 
 /// The announcer of what was found, where a snapshot is to go.
@@ -35,7 +35,7 @@ pub fn announcer_of(found: Found) -> Announcer
     Running::new(Phase::Announce { found })
 }
 
-/// Makes the next call of the store. After a refusal, and once the consumers were read again, no call is left.
+/// Makes the next call of the store. After a refusal, and once the end is known, no call is left.
 pub fn step_announcer<F: FileStore>(
     alloc: Global,
     announcer: &mut Announcer,
@@ -59,7 +59,7 @@ pub fn step_announcer<F: FileStore>(
     make_step(alloc, announcer, store)
 }
 
-/// What was announced, once the consumers were read again.
+/// What was announced, once the end is known.
 pub fn into_announced(announcer: Announcer) -> Announced
     requires { IsReady announcer }
     ensures announced { announcer ≡ phases.Announced result }

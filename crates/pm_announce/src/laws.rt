@@ -9,9 +9,8 @@ ghost use Rattle.pm_store.specs.declared.call.Call.{Call};
 ghost use Rattle.pm_store.specs.Files.{Files};
 ghost use Rattle.pm_store.specs.Images.{MayLeave};
 ghost use Rattle.pm_values.specs.declared.refusal.Refusal.{Refusal};
-ghost use Rattle.pm_values.specs.declared.refusal.Refusal.TheVariants as refusals;
 ghost use Rattle.pm_announce.specs.Announcer.{next_call, Shown};
-ghost use Rattle.pm_announce.specs.Meaning.{Knows, Makes};
+ghost use Rattle.pm_announce.specs.Meaning.{Knows, Makes, MayRefuse};
 ghost use Rattle.pm_announce.specs.declared.phase.Phase.{Phase};
 
 use pm_consumers::listed_law;
@@ -27,10 +26,11 @@ pub fn known_law()
     pm_read_expiry::known_law();
 }
 
-/// Whatever others do between its calls, a folder that stands shows an announcer no refusal but that memory ran out.
+/// Whatever others do between its calls, a folder that stands shows an announcer no refusal but that memory ran out, or
+/// the first tag, where one is there.
 pub fn causes_law()
     ensures { (m : Phase) (call : Call) (answer : Answer) (refusal : Refusal) (f : Files) (p : Past) → Stands f p
-        → next_call m ≡ Some call → Answers call answer f → Shown m answer refusal → refusal ≡ refusals.Memory }
+        → next_call m ≡ Some call → Answers call answer f → Shown m answer refusal → MayRefuse f refusal }
 {}
 
 /// Whatever a crash leaves of its next call is one of its changes.

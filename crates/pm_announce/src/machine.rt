@@ -2,13 +2,17 @@
 
 ghost use Rattle.std.specs.Prelude.{◌≡◌, ◌⊎◌, ◌<◌, IfErr, IfOk, IsSomeAnd};
 ghost use Rattle.pm_store.specs.Answers.{MayAnswer};
+ghost use Rattle.pm_store.specs.declared.answer.Answer.TheVariants as answers;
 ghost use Rattle.pm_consumers.specs.Lister as consuming;
 ghost use Rattle.pm_consumers.specs.declared.phase.Phase.TheVariants as consumer_listers;
-ghost use Rattle.pm_announce.specs.Announcer.{end_after, AfterConsumers, Goes, IsAnnouncer, IsToAnnounce, Shown};
+ghost use Rattle.pm_announce.specs.Announcer.{end_after, AfterConsumers, AfterEnd, Goes, IsAnnounced, IsAnnouncer};
+ghost use Rattle.pm_announce.specs.Announcer.{IsToAnnounce, Shown};
 ghost use Rattle.pm_announce.specs.declared.phase.Phase.TheVariants as phases;
 
 use crate::announcer::AnnounceStep;
 use crate::phase::{Announced, Phase};
+use crate::tags::{first_tag, unbuilt_tag};
+use pm_base::Txt;
 use pm_consumer_files::floor_path;
 use pm_consumers::{Lister, consumer_lister, into_consumers, is_list_done};
 use pm_machine::{Machine, PhaseMeaning};
@@ -37,6 +41,9 @@ impl pm_machine::Phase for Phase {
                 bytes: b"",
             })),
             Phase::Consumers { consumers, .. } => consumers.call(alloc),
+            Phase::Tags { .. } => Ok(Some(LentCall::List {
+                folder: Txt::from_str(alloc, "tag")?,
+            })),
             Phase::Announced { .. } | Phase::Over => Ok(None),
         }
     }
@@ -50,6 +57,9 @@ impl pm_machine::Phase for Phase {
             (Phase::Announce { found }, Answer::Made(_)) => Ok(after_floor(found)),
             (Phase::Consumers { found, consumers }, answer) => {
                 after_consumers(alloc, found, consumers, answer)
+            }
+            (Phase::Tags { announced }, Answer::Listed(files)) => {
+                after_tags(alloc, announced, files)
             }
             _ => unreachable!(),
         }
@@ -103,11 +113,42 @@ fn with_consumers(found: Found, consumers: Lister) -> Phase
         let consumers = into_consumers(consumers);
         let end = end_after(&found, least_next(consumers.as_slice()));
         drop(consumers);
-        Phase::Announced {
-            announced: Announced { found, end },
-        }
+        with_end(Announced { found, end })
     } else {
         Phase::Consumers { found, consumers }
+    }
+}
+
+/// The phase once the end is known: the tags are to be listed where a snapshot is to go still.
+fn with_end(announced: Announced) -> Phase
+    requires { IsAnnounced announced }
+    ensures goes { AfterEnd announced result }
+    ensures is_announcer { IsAnnouncer result }
+{
+    if announced.found.first < announced.end {
+        Phase::Tags { announced }
+    } else {
+        Phase::Announced { announced }
+    }
+}
+
+/// The phase once the tags were listed: none may be there.
+fn after_tags(alloc: Global, announced: Announced, files: Vec<Txt>) -> Result<Phase, Refusal>
+    requires { IsAnnounced announced }
+    ensures goes { IfOk result (Goes (phases.Tags announced) (answers.Listed files)) }
+    ensures is_announcer { IfOk result IsAnnouncer }
+    ensures refuses { IfErr result (Shown (phases.Tags announced) (answers.Listed files)) }
+{
+    match first_tag(alloc, files.as_slice()) {
+        Ok(None) => Ok(Phase::Announced { announced }),
+        Ok(Some(name)) => {
+            drop(announced);
+            Err(unbuilt_tag(alloc, name))
+        }
+        Err(_) => {
+            drop(announced);
+            Err(Refusal::Memory)
+        }
     }
 }
 

@@ -11,12 +11,13 @@ pub struct Announced {
     pub end: u64,
 }
 
-/// How far the announcement has come: the next call creates the floor; or is one of the lister of consumers; or these
-/// were read; or the announcement ended before that.
+/// How far the announcement has come: the next call creates the floor; or is one of the lister of consumers; or lists
+/// the tags; or none is left, as the end is known; or the announcement ended before that.
 #[derive(Drop)]
 pub enum Phase {
     Announce { found: Found },
     Consumers { found: Found, consumers: Lister },
+    Tags { announced: Announced },
     Announced { announced: Announced },
     Over,
 }

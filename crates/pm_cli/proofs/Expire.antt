@@ -76,7 +76,7 @@ module _ (min max millis : Option ℕ) (e : Execution) where
     told (all_stay ends is last same) =
         subst (λ (k : Kept). Tells (table s es) k) (sym (kept-is kept kept.first (length es) refl last))
         (expires min max millis s es kept.first (some-entries f s es kept.first folder is) (here (λ f. IsEndIn (asked_by e.start asked s) f kept.first) ends))
-    told (some_go least goes last given) =
+    told (some_go least goes untagged last given) =
         subst (λ (k : Kept). Tells (table s es) k) (sym (kept-is kept kept.first (length es) refl last))
         (expires min max millis s es kept.first (some-entries f s es least folder goes.is_first) (here (λ f. IsEndIn (asked_by e.start asked s) f kept.first) goes.is_end))
 

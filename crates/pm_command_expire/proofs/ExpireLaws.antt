@@ -36,12 +36,11 @@ use Rattle.pm_read_schema.specs.AllCalls.{DidRead, HasFiles, ReadsTables, Stay}
 use Rattle.pm_read_schema.specs.Beside.{AnyPast, IsTold, Learns}
 use Rattle.pm_read_schema.specs.Trace.{listed_snapshots, read_schema}
 use Rattle.pm_read_schema.proofs.LeadLemmas.{none_last}
-use Rattle.pm_read_latest.specs.AllCalls.{IsCaused}
 use Rattle.pm_read_expiry.specs.Found.{IsAsking}
 use Rattle.pm_read_expiry.specs.declared.asking.Asking.{Asking}
 use Rattle.pm_commit.specs.AllCalls.{MayStart, NamesNone}
 use Rattle.pm_expire.specs.AllCalls as expiry
-use Rattle.pm_expire.specs.AllCalls.{ChangesAt, ExpiresFiles, IsGivenBack, IsImageOf, its_file, its_floor, its_snapshot}
+use Rattle.pm_expire.specs.AllCalls.{ChangesAt, ExpiresFiles, IsGivenBack, IsImageOf, IsRefusedFor, StopsAtTag, its_file, its_floor, its_snapshot}
 use Rattle.pm_expire.specs.Beside.{ExpiresAlone, ExpiresBeside}
 use Rattle.pm_expire.specs.declared.all_calls.Kept.{Kept}
 use Rattle.pm_draft.specs.Built.{IsBuilt, unbuilt}
@@ -49,7 +48,7 @@ use Rattle.pm_command.specs.Outside.{Outside, Prints}
 use Rattle.pm_command.specs.Table.{EndsAtSchema, MayRefuse}
 use Rattle.pm_command.specs.declared.start.Start.{Start}
 use Rattle.pm_command.proofs.TableLemmas.{caused, consumers_stay, files_of, files_same, images_of, judged_caused, leaves_of, leaves_weaker, trace_weaker}
-use Rattle.pm_command_expire.specs.Expire.{AnswersExpire, AnswersHistory, DidExpire, ExpiresTables, HasKept, IsImage, IsSpoiled, IsTableExpired, Keeps, KeepsHistories, MadeBeside, MakesOf, asked_by, text_of}
+use Rattle.pm_command_expire.specs.Expire.{AnswersExpire, AnswersHistory, DidExpire, ExpiresTables, HasKept, IsImage, IsRefused, IsSpoiled, IsTableExpired, Keeps, KeepsHistories, MadeBeside, MakesOf, asked_by, text_of}
 
 -- ---- its calls
 
@@ -101,7 +100,8 @@ pub record Laws : Type 0 where
   pub all : (a : Asking) (result : Result Kept Refusal) (own : List Event) (before after : StoreView) (f : Files) (h : History) → IsAsking a → HavePlainNames a.schema
       → expiry.DidExpire a result own → Traces own before after → IsAlone before after → HasFiles f before → Folder f h → ExpiresFiles a f h before after result
   pub causes : (a : Asking) (refusal : Refusal) (own : List Event) (before after : StoreView) (f : Files) (h : History) → IsAsking a → HavePlainNames a.schema
-      → expiry.DidExpire a (Err refusal) own → Traces own before after → IsAlone before after → HasFiles f before → Folder f h → IsCaused before after refusal
+      → expiry.DidExpire a (Err refusal) own → Traces own before after → IsAlone before after → HasFiles f before → Folder f h
+      → IsRefusedFor a f before after refusal
   pub image : (a : Asking) (f g : Files) (path : List ℕ) → IsImageOf a f g → (map.get g path ≡ map.get f path) ⊎ ChangesAt a f g path
   pub settled : (f : Files) (h : History) → Folder f h
       → (p : Past) × (p.history ≡ h) × Stands f p × ((id : ℕ) → p.stood id ≡ f) × (p.since ≡ count_of h) × HasConsumersOf h f f p
@@ -147,15 +147,24 @@ none_changed a f g name plain (first, end, goes, inr (absent, floor)) = floor-co
 -- ---- files that stay
 
 module _ (start : Start) (asked : KeepAsked) where
-  same_spoiled : (h : History) (e : Refusal) (f : Files) → IsSpoiled start asked h e f f
-  same_spoiled h refusals.Memory f = inl (λ path. refl)
-  same_spoiled h (refusals.StoreFault path) f = inl (λ path. refl)
-  same_spoiled h e f = λ path. refl
+  same_spoiled : (h : History) (first after : StoreView) (e : Refusal) (f : Files) → MayRefuse h first after e → IsSpoiled start asked h e f f
+  same_spoiled h first after refusals.Memory f may = inl (λ path. refl)
+  same_spoiled h first after (refusals.StoreFault path) f may = inl (λ path. refl)
+  same_spoiled h first after (refusals.Unsupported what text) f may = inl (may, λ path. refl)
+  same_spoiled h first after e f may = λ path. refl
+
+  may_refused : (h : History) (first after : StoreView) (e : Refusal) → MayRefuse h first after e → IsRefused h first after e
+  may_refused h first after (refusals.Unsupported what text) may = tt
+  may_refused h first after e may = may
 
   stay_keeps : (h : History) (f : Files) (first after : StoreView) (e : Refusal) → HasFiles f first → Folder f h → Stay f first after → MayRefuse h first after e
       → Keeps start asked h first after (Err e)
   stay_keeps h f first after e has folder stay may = record {
-    makes = (may, leaves_of (λ f. LeavesFiles (IsSpoiled start asked h e f) after) f first has (leaves_of (IsSpoiled start asked h e f) f after stay.here (same_spoiled h e f)));
+    makes = (
+      may_refused h first after e may,
+      leaves_of (λ f. LeavesFiles (IsSpoiled start asked h e f) after) f first has
+          (leaves_of (IsSpoiled start asked h e f) f after stay.here (same_spoiled h first after e f may)),
+    );
     folder = leaves_of (λ g. Folder g h) f after stay.here folder;
     images = leaves_of (λ f. Extends (λ g. Folder g h × IsImage start asked h f g) first.ops after.ops) f first has
         (images_of (λ g. Folder g h × IsImage start asked h f g) f first.ops after.ops stay.images (folder, inl (λ path. refl)));
@@ -267,15 +276,20 @@ module _ (laws : Laws) (start : Start) (asked : KeepAsked) (s : TableSchema) (bu
           ),
     )
 
-    refused : (e : Refusal) (first after : StoreView) → IsCaused first after e → MayRefuse h first after e
+    refused : (e : Refusal) (first after : StoreView) → IsRefusedFor a f first after e → IsRefused h first after e
     refused refusals.Memory first after cause = tt
     refused (refusals.StoreFault path) first after cause = cause
+    refused (refusals.Unsupported what text) first after cause = tt
     refused e first after cause = absurd cause
 
-    spoiled : (e : Refusal) (first after : StoreView) → IsCaused first after e → (g : Files) → IsImageOf a f g → IsSpoiled start asked h e f g
-    spoiled refusals.Memory first after cause g image = as_image g image
-    spoiled (refusals.StoreFault path) first after cause g image = as_image g image
-    spoiled e first after cause g image = absurd cause
+    spoiled : (e : Refusal) (first after : StoreView) → IsRefusedFor a f first after e → LeavesFiles (IsImageOf a f) after
+        → LeavesFiles (IsSpoiled start asked h e f) after
+    spoiled refusals.Memory first after cause images = leaves_weaker (IsImageOf a f) (IsSpoiled start asked h refusals.Memory f) as_image after images
+    spoiled (refusals.StoreFault path) first after cause images =
+        leaves_weaker (IsImageOf a f) (IsSpoiled start asked h (refusals.StoreFault path) f) as_image after images
+    spoiled (refusals.Unsupported what text) first after (tag, stops) images =
+        leaves_weaker (StopsAtTag a f text) (IsSpoiled start asked h (refusals.Unsupported what text) f) (λ g at. inr (tag, (s, is, built, at))) after stops
+    spoiled e first after cause images = absurd cause
 
     made_of : (made : Result Kept Refusal) (own : List Event) (first after : StoreView) → HasFiles f first → Traces own first after → IsAlone first after
         → expiry.DidExpire a made own → ExpiresFiles a f h first after made → MakesOf start asked h first after made
@@ -285,8 +299,7 @@ module _ (laws : Laws) (start : Start) (asked : KeepAsked) (s : TableSchema) (bu
     made_of (Err e) own first after has trace alone did files =
         let cause = laws.causes a e own first after f h asking (plain_names s built) did trace alone has folder in (
           refused e first after cause,
-          leaves_of (λ f. LeavesFiles (IsSpoiled start asked h e f) after) f first has
-              (leaves_weaker (expiry.Leaves a (count_of h) f (Err e)) (IsSpoiled start asked h e f) (spoiled e first after cause) after files.leaves),
+          leaves_of (λ f. LeavesFiles (IsSpoiled start asked h e f) after) f first has (spoiled e first after cause files.leaves),
         )
 
     expire_keeps : (made : Result Kept Refusal) (first after : StoreView) → HasFiles f first → MakesOf start asked h first after made

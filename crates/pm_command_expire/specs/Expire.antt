@@ -23,10 +23,10 @@ use Rattle.pm_read_schema.specs.Trace as reader
 use Rattle.pm_read_expiry.specs.declared.asking.Asking.{Asking}
 use Rattle.pm_commit.specs.AllCalls.{MayStart}
 use Rattle.pm_expire.specs.AllCalls as expiry
-use Rattle.pm_expire.specs.AllCalls.{Becomes, IsImageOf}
+use Rattle.pm_expire.specs.AllCalls.{Becomes, IsImageOf, StopsAtTag}
 use Rattle.pm_expire.specs.Beside.{ExpiresBeside}
 use Rattle.pm_expire.specs.declared.all_calls.Kept.{Kept}
-use Rattle.pm_draft.specs.Built.{IsBuilt}
+use Rattle.pm_draft.specs.Built.{IsBuilt, unbuilt}
 use Rattle.pm_command.specs.Outside.{ConsumersRest, HaveSame, Outside, Prints}
 use Rattle.pm_command.specs.Table.{EndsAtSchema, MayRefuse}
 use Rattle.pm_command.specs.declared.start.Start.{Start}
@@ -97,11 +97,28 @@ abbrev pub IsImage : Start → KeepAsked → History → Files → Files → Typ
 IsImage start asked h f g =
     HaveSame f g ⊎ OfBuilt h (λ s. IsImageOf (asked_by start asked s) f g)
 
--- what a refusal leaves of them: what a crash may, where memory ran out or the store failed, and else the same
+-- a tag is there, of which the refusal names the least: no path changes, but that the floor of the end is there
+abbrev pub StopsForTag : Start → KeepAsked → History → List ℕ → List ℕ → Files → Files → Type 0
+StopsForTag start asked h what text f g =
+    (what ≡ codes "tag") × OfBuilt h (λ s. StopsAtTag (asked_by start asked s) f text g)
+
+-- the history's table isn't built, for which it is refused
+abbrev pub IsUnbuilt : History → Refusal → Type 0
+IsUnbuilt h e = (s : TableSchema) × IsTableOf s h × (unbuilt s ≡ Some e)
+
+-- What a refusal leaves of them: what a crash may, where memory ran out or the store failed; the same, where the table
+-- isn't built; or what it leaves for a tag; and else the same.
 abbrev pub IsSpoiled : Start → KeepAsked → History → Refusal → Files → Files → Type 0
 IsSpoiled start asked h refusals.Memory f g = IsImage start asked h f g
 IsSpoiled start asked h (refusals.StoreFault path) f g = IsImage start asked h f g
+IsSpoiled start asked h (refusals.Unsupported what text) f g =
+    (IsUnbuilt h (refusals.Unsupported what text) × HaveSame f g) ⊎ StopsForTag start asked h what text f g
 IsSpoiled start asked h other f g = HaveSame f g
+
+-- why it is refused; of what isn't built that is said with what it leaves
+abbrev pub IsRefused : History → StoreView → StoreView → Refusal → Type 0
+IsRefused h first after (refusals.Unsupported what text) = Unit {0}
+IsRefused h first after other = MayRefuse h first after other
 
 -- what its answer leaves of them: where what is kept was told, or the sink failed, what becomes of them by that
 abbrev pub IsLeftBy : Start → KeepAsked → History → Option Refusal → Files → Files → Type 0
@@ -122,7 +139,7 @@ AnswersHistory start asked h first before after None = (kept : Kept)
 AnswersHistory start asked h first before after (Some (refusals.SinkFault snapshot)) = (snapshot ≡ None) × (kept : Kept)
     × FromTo (HasKept start asked h kept) first after.store
     × SinkFailed before.out after.out × TookPrefix before.out.taken after.out.taken (kept_text kept)
-AnswersHistory start asked h first before after (Some e) = MayRefuse h first after.store e
+AnswersHistory start asked h first before after (Some e) = IsRefused h first after.store e
     × FromTo (IsSpoiled start asked h e) first after.store × (after.out ≡ before.out)
 
 -- What `expire` does to a history: the folder goes on to stand for it, and so does each image of a crash, which is one
@@ -148,7 +165,7 @@ ExpiresTables start asked before after answer =
 -- Private: what was made of a history
 abbrev pub MakesOf : Start → KeepAsked → History → StoreView → StoreView → Result Kept Refusal → Type 0
 MakesOf start asked h first after (Ok kept) = FromTo (HasKept start asked h kept) first after
-MakesOf start asked h first after (Err e) = MayRefuse h first after e × FromTo (IsSpoiled start asked h e) first after
+MakesOf start asked h first after (Err e) = IsRefused h first after e × FromTo (IsSpoiled start asked h e) first after
 
 -- Private: what the calls of `expire` do to a history
 pub record Keeps (start : Start) (asked : KeepAsked) (h : History) (first after : StoreView)

@@ -46,16 +46,17 @@ use Rattle.pm_read_expiry.specs.Trace.{listed_floors, HasConsumers, HasFloors}
 use Rattle.pm_read_expiry.specs.Reader.{floors_call}
 use Rattle.pm_read_expiry.specs.declared.asking.Asking.{Asking}
 use Rattle.pm_read_expiry.specs.declared.asking.Found.{Found}
-use Rattle.pm_announce.specs.Announcer.{announce_call, end_after, IsToAnnounce}
+use Rattle.pm_announce.specs.Announcer.{announce_call, end_after, tags_call, IsToAnnounce}
+use Rattle.pm_announce.specs.Tags.{tag_folder, IsFirstTag}
 use Rattle.pm_announce.specs.Trace as announcing
-use Rattle.pm_announce.specs.Trace.{announces, HasFloor}
+use Rattle.pm_announce.specs.Trace.{announces, listed_tags, HasFloor}
 use Rattle.pm_announce.specs.declared.phase.Announced.{Announced}
 use Rattle.pm_expire.specs.AllCalls.{announced, as_before, AreRemovalsOf, Becomes, DidExpire, ExpiresFiles, FindsIn, HasGivenBack, HasToGo, IsFirst, IsImageOf, all_found, none_found, removing, some_go}
 use Rattle.pm_expire.specs.Expirer.{AreRemovals}
 use Rattle.pm_expire.specs.Trace.{asked_at, EndsBetween, HasAll, HasAnnounced, HasExpired, HasFound, HasViews, Shows, announced_then, kept_all, kept_all_then, removed, viewed_then}
 use Rattle.pm_expire.specs.declared.all_calls.Kept.{Kept}
 use Rattle.pm_expire.proofs.AnnounceAloneLemmas.{Ends, IsRun, KindsKept, Leads, floor_failed, floor_folder_kept, floor_image, floor_made, floors_below, parted, run_of, still_run, stays}
-use Rattle.pm_expire.proofs.AnnouncedLemmas.{are_consumers, others}
+use Rattle.pm_expire.proofs.AnnouncedLemmas.{are_consumers, others, tags_before}
 use Rattle.pm_expire.proofs.FoundLemmas.{found, split}
 use Rattle.pm_expire.proofs.KeptLemmas.{EndLaw, again, kept}
 use Rattle.pm_expire.proofs.ViewStillLemmas.{whole_shows_still, whole_still}
@@ -103,7 +104,7 @@ is_so : (P : Files → Type 0) (g : Files) (known : Option (List Op)) → P g �
 is_so P g None so has = has
 is_so P g (Some ops) so has = subst P (sym has) so
 
-ends_of : (I P : Files → Type 0) (g : Files) (before after : StoreView) → P g → Leads I g before after → Ends I P before after
+pub ends_of : (I P : Files → Type 0) (g : Files) (before after : StoreView) → P g → Leads I g before after → Ends I P before after
 ends_of I P g before after so leads = record { leaves = is_so P g after.ops so leads.has; images = leads.images }
 
 told_of : (g : Files) (known : Option (List Op)) → IsSomeAnd known (λ ops. files_after ops ≡ g) → (told : List Op) × (known ≡ Some told) × (files_after told ≡ g)
@@ -234,6 +235,36 @@ module _ (laws : Laws) (a : Asking) (f : Files) (h : History) (asking : IsAsking
         let are = are_consumers f x.end cs (consumers_calls.listed_at g h g_folder cs fl.rest fl.then_rest told) in
         (is ∙ facts.same_end cs next are least, still_after (consumers.HasListed cs) before after fl still)
 
+    -- then the tags were listed, which were there before the floor
+    pub listed_then : (end : ℕ) (tag : Option (List ℕ)) (own : List Event) (before after : StoreView) → announcing.HasListed x end tag own → IsRun own before after
+        → HasFiles f before → (end ≡ x.end) × IsFirstTag f tag × Leads Image g before after
+    listed_then end tag own before after l run here =
+        let last : List Event = listed_tags l.files ∷ [] in
+        let parts = parted l.earlier last before after (run_of own (l.earlier ++ last) before after l.is run) in
+        let so = read_again end l.earlier before parts.middle l.to_list.1 parts.first here in
+        let still = still_run g last parts.middle after (list_still tag_folder, tt) parts.rest so.1.has in (
+          so.0,
+          record { files = l.files.items; listing = tags_before f x.end l.files.items still.1.0; is = l.first },
+          leads_join Image g before parts.middle after so.1.images (stays Image g parts.middle after g_image still.0),
+        )
+
+    ended_then : (end : ℕ) (own : List Event) (before after : StoreView) → announcing.HasEnded x end own → IsRun own before after → HasFiles f before
+        → Leads Image g before after
+    ended_then end own before after (inl read) run here = (read_again end own before after read.1 run here).1
+    ended_then end own before after (inr listed) run here = (listed_then end None own before after listed run here).2
+
+    tags_shows : (refusal : Refusal) (own : List Event) (before after : StoreView) → announcing.ShowsOfTags x refusal own → IsRun own before after → HasFiles f before
+        → Leads Image g before after
+    tags_shows refusals.Memory own before after (end, inl to_list) run here = (read_again end own before after to_list.1 run here).1
+    tags_shows refusals.Memory own before after (end, inr (tag, listed)) run here = (listed_then end tag own before after listed run here).2
+    tags_shows (refusals.StoreFault path) own before after (end, earlier, to_list, at, is) run here =
+        let last : List Event = faulted tags_call ∷ [] in
+        let parts = parted earlier last before after (run_of own (earlier ++ last) before after is run) in
+        let so = read_again end earlier before parts.middle to_list.1 parts.first here in
+        leads_join Image g before parts.middle after so.1.images (still_then last parts.middle after (list_still tag_folder, tt) parts.rest so.1.has)
+    tags_shows (refusals.Unsupported what text) own before after (what_is, (end, listed)) run here = (listed_then end (Some text) own before after listed run here).2
+    tags_shows other own before after shows run here = absurd shows
+
     floor_shows : (refusal : Refusal) (own : List Event) (before after : StoreView) → announcing.ShowsOfFloor x refusal own → IsRun own before after → HasFiles f before
         → Ends Image Image before after
     floor_shows refusals.Memory own before after none run here =
@@ -246,7 +277,8 @@ module _ (laws : Laws) (a : Asking) (f : Files) (h : History) (asking : IsAsking
     announcer_shows : (refusal : Refusal) (own : List Event) (before after : StoreView) → announcing.Shows x refusal own → IsRun own before after → HasFiles f before
         → Ends Image Image before after
     announcer_shows refusal own before after (inl shows) run here = floor_shows refusal own before after shows run here
-    announcer_shows refusal own before after (inr has) run here =
+    announcer_shows refusal own before after (inr (inr shows)) run here = ends_of Image Image g before after g_image (tags_shows refusal own before after shows run here)
+    announcer_shows refusal own before after (inr (inl has)) run here =
         let fl = floored (consumers.Shows refusal) own before after has run here in
         ends_of Image Image g before after g_image
         (still_after (consumers.Shows refusal) before after fl (consumers_calls.shows_calls refusal fl.rest fl.then_rest))
@@ -267,6 +299,7 @@ module _ (laws : Laws) (a : Asking) (f : Files) (h : History) (asking : IsAsking
     -- ready to read views
     pub record Ready (P : List Event → Type 0) (before after : StoreView) : Type 0 where
       pub end : n.end ≡ n.found.end
+      pub untagged : IsFirstTag f None
       pub middle : StoreView
       pub files : Leads Image G before middle
       pub rest : List Event
@@ -277,8 +310,8 @@ module _ (laws : Laws) (a : Asking) (f : Files) (h : History) (asking : IsAsking
         → Ready P before after
     readied P own before after has run here =
         let parts = parted has.announces has.rest before after (run_of own (has.announces ++ has.rest) before after has.is run) in
-        let so = read_again n.found facts n.end has.announces before parts.middle has.read parts.first here in
-        record { end = so.0; middle = parts.middle; files = so.1; rest = has.rest; then_rest = has.then_rest; run = parts.rest }
+        let so = listed_then n.found facts n.end None has.announces before parts.middle has.listed parts.first here in
+        record { end = so.0; untagged = so.1; middle = parts.middle; files = so.2; rest = has.rest; then_rest = has.then_rest; run = parts.rest }
 
     pub record Seen (id : ℕ) (d : DroppingView) (P : List Event → Type 0) (before after : StoreView) : Type 0 where
       pub seen : AreSeen f n.found.schema n.found.first id d
@@ -337,6 +370,7 @@ module _ (laws : Laws) (a : Asking) (f : Files) (h : History) (asking : IsAsking
     -- once all that is to be removed is known
     record Known (P : List (List ℕ) → List Event → Type 0) (before after : StoreView) : Type 0 where
       end : n.end ≡ n.found.end
+      untagged : IsFirstTag f None
       paths : List (List ℕ)
       are : AreRemovalsOf a.schema f n.found.first n.found.end paths
       middle : StoreView
@@ -354,6 +388,7 @@ module _ (laws : Laws) (a : Asking) (f : Files) (h : History) (asking : IsAsking
             let v = viewed_so (n.end + 1) d (P paths) r.rest r.middle after views r.run r.files.has in
             record {
               end = r.end;
+              untagged = r.untagged;
               paths = paths;
               are = subst (λ (s : TableSchema). AreRemovalsOf s f n.found.first n.found.end paths) facts.schema (removals_at d paths r.end are v.seen);
               middle = v.middle;
@@ -399,15 +434,15 @@ module _ (laws : Laws) (a : Asking) (f : Files) (h : History) (asking : IsAsking
         (some_removed k.paths k.middle after k.are k.files.has
         (laws.some k.paths removers.Over k.rest k.middle after (refusal, k.then_rest) k.run.trace k.run.alone))
 
-    becomes_end : (first last : ℕ) (before after : StoreView) → first ≡ n.found.end → last ≡ count_of h
+    becomes_end : (first last : ℕ) (before after : StoreView) → first ≡ n.found.end → IsFirstTag f None → last ≡ count_of h
         → Ends Image (λ g. HasGivenBack a.schema f n.found.end g) before after → Ends Image (λ g. Becomes a (count_of h) f g first last) before after
-    becomes_end first last before after is_first is_last ends = record {
+    becomes_end first last before after is_first untagged is_last ends = record {
       leaves = weaker after.ops ends.leaves;
       images = ends.images;
     }
       where
         one : (g : Files) → HasGivenBack a.schema f n.found.end g → Becomes a (count_of h) f g first last
-        one g back = subst (λ (k : ℕ). Becomes a (count_of h) f g k last) (sym is_first) (some_go n.found.first facts.go is_last back)
+        one g back = subst (λ (k : ℕ). Becomes a (count_of h) f g k last) (sym is_first) (some_go n.found.first facts.go untagged is_last back)
 
         weaker : (known : Option (List Op)) → IsSomeAnd known (λ ops. HasGivenBack a.schema f n.found.end (files_after ops))
             → IsSomeAnd known (λ ops. Becomes a (count_of h) f (files_after ops) first last)
@@ -419,7 +454,7 @@ module _ (laws : Laws) (a : Asking) (f : Files) (h : History) (asking : IsAsking
         → Ends Image (λ g. Becomes a (count_of h) f g first last) before after
     removed_so first last own before after is_first is_last has run here =
         let k = all_known (λ paths rest. removing.HasRemoved rest paths) own before after has run here in
-        becomes_end first last before after (is_first ∙ k.end) (is_last ∙ facts.last)
+        becomes_end first last before after (is_first ∙ k.end) k.untagged (is_last ∙ facts.last)
         (ends_join Image (λ g. HasGivenBack a.schema f n.found.end g) before k.middle after k.files.images
         (all_removed k.paths k.middle after k.are k.files.has (laws.all k.paths k.rest k.middle after k.then_rest k.run.trace k.run.alone)))
 
@@ -447,10 +482,10 @@ module _ (laws : Laws) (a : Asking) (f : Files) (h : History) (asking : IsAsking
 
   between : (own : List Event) (before after : StoreView) → EndsBetween a own → IsRun own before after → HasFiles f before → Ends Image Image before after
   between own before after (announced_then n has) run here =
-      let b = begun n.found (announcing.HasRead n.found n.end) own before after has run here in
-      let so = read_again n.found b.facts n.end b.rest b.middle after b.then_rest b.run b.files.has in
+      let b = begun n.found (announcing.HasEnded n.found n.end) own before after has run here in
       ends_join Image Image before b.middle after b.files.images
-      (ends_of Image Image (announced f n.found.end) b.middle after (g_image n.found b.facts) so.1)
+      (ends_of Image Image (announced f n.found.end) b.middle after (g_image n.found b.facts)
+      (ended_then n.found b.facts n.end b.rest b.middle after b.then_rest b.run b.files.has))
   between own before after (viewed_then v m ready has) run here =
       let n : Announced = v.announced in
       let P : List Event → Type 0 = whole.Did (asked_at n v.id) m in

@@ -2,7 +2,7 @@
 use Rattle.std.proofs.Common.{◌≡◌, ◌≢◌, ◌↔◌, ℕ, ◌≤◌, List, [], ◌∷◌, Contains, map, if◌then◌else◌, is_none, Option, None, Some, IsSome, refl, sym, ◌∙◌, subst}
 use Rattle.std.specs.FinMap as finite
 use Rattle.std.specs.List.{AllByRecursion}
-use Rattle.pm_store.specs.Files.{Files}
+use Rattle.pm_store.specs.Files.{Files, IsListing, name_in}
 use Rattle.pm_store.proofs.ChangeLaws.{Puts-insert}
 use Rattle.pm_snapshot.specs.Names.{greatest, snapshot_name}
 use Rattle.pm_model_folder.specs.Meaning.{ConsumerAt}
@@ -14,6 +14,7 @@ use Rattle.pm_snapshots.specs.Meaning.{IsLineAt}
 use Rattle.pm_snapshots.specs.declared.line.SnapshotLine.{SnapshotLine}
 use Rattle.pm_consumers.specs.AllCalls.{AreConsumersOf}
 use Rattle.pm_read_expiry.specs.declared.asking.Asking.{Asking}
+use Rattle.pm_announce.specs.Tags.{tag_folder}
 use Rattle.pm_expire.specs.AllCalls.{announced, IsEndIn}
 use Rattle.pm_expire.proofs.ChainLemmas.{ids_of}
 
@@ -34,6 +35,28 @@ others f end path apart = others_at f (floor_path end) path (finite.get f (floor
 
 pub there : (f : Files) (end : ℕ) → IsSome (finite.get (announced f end) (floor_path end))
 there f end = there_at f (floor_path end) (finite.get f (floor_path end)) refl
+
+-- ---- the tags
+
+no_tag : (n : ℕ) (name : List ℕ) → name_in tag_folder (floor_path n) ≡ Some name → ⊥
+no_tag n name is = let clash : None ≡ Some name = is in cc
+
+tag_same : (f : Files) (floor : ℕ) (name path : List ℕ) → name_in tag_folder path ≡ Some name → finite.get (announced f floor) path ≡ finite.get f path
+tag_same f floor name path leads =
+    others f floor path (λ same. no_tag floor name (subst (λ (path : List ℕ). name_in tag_folder path ≡ Some name) same leads))
+
+pub tags_before : (f : Files) (floor : ℕ) (files : List (List ℕ)) → IsListing tag_folder files (announced f floor) → IsListing tag_folder files f
+tags_before f floor files listing = record {
+  rising = listing.rising;
+  exact = λ name. (
+    λ among.
+        let (path, some, leads) = (listing.exact name).0 among in
+        (path, subst (λ (o : Option (List ℕ)). IsSome o) (tag_same f floor name path leads) some, leads),
+    λ there.
+        let (path, some, leads) = there in
+        (listing.exact name).1 (path, subst (λ (o : Option (List ℕ)). IsSome o) (sym (tag_same f floor name path leads)) some, leads),
+  );
+}
 
 -- ---- the end
 

@@ -18,7 +18,7 @@ use Rattle.pm_model_folder.specs.Changes.{Actor, HavePlainNames}
 use Rattle.pm_model_folder.specs.Ledger.{Advances, Past, Stands}
 use Rattle.pm_create.specs.Making.{LeavesFiles}
 use Rattle.pm_remove.specs.declared.phase.Phase.TheVariants as removers
-use Rattle.pm_read_schema.specs.Beside.{IsTold, OthersAdvance}
+use Rattle.pm_read_schema.specs.Beside.{OthersAdvance}
 use Rattle.pm_beside.specs.Bringing.{Brings}
 use Rattle.pm_beside.proofs.BringLemmas.{brings-moves, brings-none, brings-then, brings-weaker}
 use Rattle.pm_snapshots.specs.AllCalls.{GoesOnFrom}
@@ -30,7 +30,7 @@ use Rattle.pm_announce.specs.declared.phase.Phase.TheVariants as announcers
 use Rattle.pm_expire.specs.AllCalls.{DidExpire}
 use Rattle.pm_expire.specs.Beside.{BringsFrom, Expires, ExpiresAlone, ExpiresBeside, ExpiresFrom, HasCome, KnowsAnswer, StandsKnown, announces, changes_none, removes}
 use Rattle.pm_expire.specs.Expirer.{calls_left}
-use Rattle.pm_expire.specs.Meaning.{ExpirerMoved, ExpirerTold, Knows, Makes}
+use Rattle.pm_expire.specs.Meaning.{ExpirerMoved, ExpirerTold, IsTold, Knows, Makes}
 use Rattle.pm_expire.specs.Trace.{Did, ExpirerActed}
 use Rattle.pm_expire.specs.declared.all_calls.Kept.{Kept}
 use Rattle.pm_expire.specs.declared.expirer.ExpireStep.{ExpireStep}
@@ -95,6 +95,7 @@ came-none a first now (own, has, trace) =
 kind-of : (me : Actor) (m : Phase) (f after : Files) (p later : Past) → Makes me m f p after later → Expires me f p after later
 kind-of me (phases.Announce (announcers.Announce x)) f after p later change = announces x change
 kind-of me (phases.Announce (announcers.Consumers x c)) f after p later kept = changes_none kept
+kind-of me (phases.Announce (announcers.Tags a)) f after p later kept = changes_none kept
 kind-of me (phases.Announce (announcers.Announced a)) f after p later kept = changes_none kept
 kind-of me (phases.Announce announcers.Over) f after p later kept = changes_none kept
 kind-of me (phases.Remove first last (removers.Remove r)) f after p later change = removes r.next change

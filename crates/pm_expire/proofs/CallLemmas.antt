@@ -15,7 +15,6 @@ use Rattle.pm_remove.specs.declared.phase.Phase.TheVariants as removers
 use Rattle.pm_remove.specs.Remover as removing
 use Rattle.pm_remove.proofs.Facts as removing_facts
 use Rattle.pm_expire_paths.specs.Dropping.{DroppingView}
-use Rattle.pm_read_schema.specs.Beside.{IsTold}
 use Rattle.pm_read_whole.specs.Whole as whole
 use Rattle.pm_read_whole.specs.declared.phase.Phase as whole_phase
 use Rattle.pm_read_whole.proofs.Facts as whole_facts
@@ -31,7 +30,7 @@ use Rattle.pm_announce.specs.declared.phase.Phase.TheVariants as announcers
 use Rattle.pm_announce.proofs.Facts as announcing_facts
 use Rattle.pm_expire.specs.Expirer.{announce_calls, calls_left, calls_to, most_paths, next_call, reached_at, view_calls, views_left, AfterAdding, AfterAnnounce, AfterRead, AfterRemove, AfterView, Goes, IsExpirer, Reaches}
 use Rattle.pm_expire.specs.Expirer.{announces_on, none_goes, none_goes_then, reads_on, removed_all, removes_on, some_goes, view_read, views_all, views_first, views_next, views_on}
-use Rattle.pm_expire.specs.Meaning.{Beside, ExpirerTold, Knows, KnowsBeside, Makes, MakesBeside, StandsBeside, TellsBeside}
+use Rattle.pm_expire.specs.Meaning.{Beside, ExpirerTold, IsTold, Knows, KnowsBeside, Makes, MakesBeside, StandsBeside, TellsBeside}
 use Rattle.pm_expire.specs.declared.phase.Phase.{Phase}
 use Rattle.pm_expire.specs.declared.phase.Phase.TheVariants as phases
 use Rattle.pm_expire.specs.declared.phase.Views.{Views}
@@ -58,8 +57,10 @@ read_ahead n to new (some_goes x at goes within is) fewer =
 views_same : (m to : announce_phase.Phase) (answer : Answer) → announcing.Goes m answer to → (announcing.IsReady to → ⊥) → views_left to ≡ views_left m
 views_same (announcers.Announce x) to (answers.Made answer) is not = ap views_left is
 views_same (announcers.Consumers x c) to answer (new, on, more_consumers more is) not = ap views_left is
-views_same (announcers.Consumers x c) to answer (new, on, all_consumers next done least is) not =
+views_same (announcers.Consumers x c) to answer (new, on, all_consumers next done least (announcing.none_goes none is)) not =
     absurd (not (subst announcing.IsReady (sym is) tt))
+views_same (announcers.Consumers x c) to answer (new, on, all_consumers next done least (announcing.some_goes some is)) not = ap views_left is
+views_same (announcers.Tags a) to (answers.Listed files) (none, is) not = absurd (not (subst announcing.IsReady (sym is) tt))
 views_same m to answer goes not = absurd goes
 
 end_below : (x : Found) (next : Option ℕ) → x.first ≤ x.end → end_after x next ≤ x.end
@@ -75,12 +76,20 @@ views_begun (announcers.Announce x) to (answers.Made answer) a is at here =
     absurd (let clash : announcers.Announced a ≡ _ = sym here ∙ at in cc)
 views_begun (announcers.Consumers x c) to answer a is (new, on, more_consumers more at) here =
     absurd (let clash : announcers.Announced a ≡ announcers.Consumers x new = sym here ∙ at in cc)
-views_begun (announcers.Consumers x c) to answer a is (new, on, all_consumers next done least at) here =
+views_begun (announcers.Consumers x c) to answer a is (new, on, all_consumers next done least (announcing.some_goes some at)) here =
+    absurd (let clash : announcers.Announced a ≡ _ = sym here ∙ at in cc)
+views_begun (announcers.Consumers x c) to answer a is (new, on, all_consumers next done least (announcing.none_goes none at)) here =
     let same = one_announced a (announcing.announced_of x (end_after x next)) (sym here ∙ at) in
     let first = ap (λ (a : Announced). a.found.first) same in
     let end = ap (λ (a : Announced). a.end) same in
     let low = is.0.first in
     let high = end_below x next (omega (arith, low)) in
+    omega (arith, first, end, high)
+views_begun (announcers.Tags b) to (answers.Listed files) a is (none, at) here =
+    let same = one_announced a b (sym here ∙ at) in
+    let first = ap (λ (a : Announced). a.found.first) same in
+    let end = ap (λ (a : Announced). a.end) same in
+    let high = is.0.last in
     omega (arith, first, end, high)
 views_begun m to answer a is goes here = absurd goes
 
@@ -133,7 +142,7 @@ goes m answer new is on = absurd on
 -- an expirer with calls left has a next one
 pub has_call : (m : Phase) → IsExpirer m → 0 < calls_left m → IsSome (next_call m)
 has_call (phases.Read m) is left = reading_facts.has_call m is.0 is.1
-has_call (phases.Announce m) is left = announcing_facts.has_call m is.1
+has_call (phases.Announce m) is left = announcing_facts.has_call m is.0 is.1
 has_call (phases.View v m) is left = whole_facts.has_call m is.1.whole is.2
 has_call (phases.Remove first last m) is left = removing_facts.has_call m is
 has_call (phases.Done first last) is left = absurd (let none : 0 < 0 = left in omega (arith, none))

@@ -1,4 +1,4 @@
--- What refusals of an expiry come of where nobody else acts: memory ran out, or a fault of the store was counted.
+-- What refusals of an expiry come of where nobody else acts: memory ran out, a fault of the store was counted, or a tag is there.
 use Rattle.std.proofs.Common.{◌≡◌, ◌⊎◌, inl, inr, ℕ, ◌+◌, ◌≤◌, List, [], ◌∷◌, ◌++◌, length, take, Option, None, Some, IsSome, Err, refl, sym, ap, ◌∙◌, subst, arith, append_assoc}
 use Rattle.std.specs.FinMap as map
 use Rattle.pm_base.specs.Faults.{Rose}
@@ -12,6 +12,7 @@ use Rattle.pm_store.specs.Files.{Files}
 use Rattle.pm_store.specs.Store.{StoreView, IsAlone}
 use Rattle.pm_machine.specs.Trace.{Ended, Event, Traces, faulted}
 use Rattle.pm_machine.proofs.AloneLaws.{Traces-later}
+use Rattle.pm_create.specs.Making.{LeavesFiles}
 use Rattle.pm_model_history.specs.History.{Entry, History, IsTableOf, no_table, table}
 use Rattle.pm_schema.specs.declared.schema.TableSchema.{TableSchema}
 use Rattle.pm_snapshot.specs.Names.{greatest}
@@ -45,11 +46,13 @@ use Rattle.pm_read_expiry.specs.Trace as reading
 use Rattle.pm_read_expiry.specs.Trace.{HasFloors, listed_floors}
 use Rattle.pm_read_expiry.specs.declared.asking.Asking.{Asking}
 use Rattle.pm_read_expiry.specs.declared.asking.Found.{Found}
+use Rattle.pm_announce.specs.Announcer.{tags_call}
+use Rattle.pm_announce.specs.Tags.{unbuilt_tag}
 use Rattle.pm_announce.specs.Trace as announcing
 use Rattle.pm_announce.specs.declared.phase.Announced.{Announced}
-use Rattle.pm_expire.specs.AllCalls.{DidExpire, announced}
+use Rattle.pm_expire.specs.AllCalls.{DidExpire, IsImageOf, IsRefusedFor, StopsAtTag, announced}
 use Rattle.pm_expire.specs.Trace.{HasAll, HasAnnounced, HasFound, HasViews, Shows, asked_at}
-use Rattle.pm_expire.proofs.AllCallsLemmas.{Facts, Laws, begun, floored, g_folder, reading_still, readied, snapshots_same, table_at, viewed_so}
+use Rattle.pm_expire.proofs.AllCallsLemmas.{Facts, Laws, begun, ends_of, floored, g_folder, listed_then, reading_still, readied, snapshots_same, table_at, viewed_so}
 use Rattle.pm_expire.proofs.AnnounceAloneLemmas.{IsRun, parted, run_of, still_run}
 use Rattle.pm_expire.proofs.ChainLemmas.{at_snapshot, snapshot_at}
 use Rattle.pm_expire.proofs.ViewCauseLemmas.{IsOfStore, ReadLaws, whole_of_store}
@@ -126,7 +129,8 @@ reading_fault a path own (inr (inr (inr shows))) = times_fault a path own shows
 
 announcer_fault : (x : Found) (path : List ℕ) (own : List Event) → announcing.Shows x (refusals.StoreFault path) own → HasFault own
 announcer_fault x path own (inl (at, is)) = subst HasFault (sym is) (inl refl)
-announcer_fault x path own (inr has) = subst HasFault (sym has.is) (inr (consumers_fault path has.rest has.then_consumers))
+announcer_fault x path own (inr (inr (end, earlier, to_list, at, is))) = fault_last earlier tags_call own is
+announcer_fault x path own (inr (inl has)) = subst HasFault (sym has.is) (inr (consumers_fault path has.rest has.then_consumers))
 
 log_fault : (a : LogAskedView) (bytes : List ℕ) (later own : List Event) (path : List ℕ) → own ≡ read_first a bytes ∷ later → log.Shows a (refusals.StoreFault path) own
     → HasFault later
@@ -265,6 +269,10 @@ between_there f s entries folder first id after from to there =
     let here = (has.exact id within).1 (omega (arith, low, from), to) in
     snapshot-committed f s entries id folder (omega (arith, after, from)) within (at_snapshot f s id (omega (arith, after, from)) here)
 
+-- a tag is there, and so is the floor
+abbrev HasStopped : Asking → Files → Refusal → StoreView → Type 0
+HasStopped a f refusal after = (name : List ℕ) × (refusal ≡ unbuilt_tag name) × LeavesFiles (StopsAtTag a f name) after
+
 module _ (laws : Laws) (reads : ReadLaws) (a : Asking) (f : Files) (h : History) (asking : IsAsking a) (plain : HavePlainNames a.schema) (folder : Folder f h) where
   -- a view of a snapshot that is kept or goes, read once the floor is there
   view_of_table : (n : Announced) (facts : Facts laws a f h asking plain folder n.found) (id : ℕ) (refusal : Refusal) (own : List Event) → n.found.first ≤ id
@@ -284,22 +292,37 @@ module _ (laws : Laws) (reads : ReadLaws) (a : Asking) (f : Files) (h : History)
       whole_of_store reads G n.found.schema (take id entries) id (omega (arith, least, from))
       (subst (λ (s : TableSchema). IsCommitted G s (take id entries) id) schema committed) refusal own shows told
 
+  tags_of_store : (x : Found) (facts : Facts laws a f h asking plain folder x) (refusal : Refusal) (own : List Event) (before after : StoreView)
+      → announcing.ShowsOfTags x refusal own → IsRun own before after → HasFiles f before → IsOfStore refusal ⊎ HasStopped a f refusal after
+  tags_of_store x facts refusals.Memory own before after shows run here = inl tt
+  tags_of_store x facts (refusals.StoreFault path) own before after shows run here = inl tt
+  tags_of_store x facts (refusals.Unsupported what text) own before after (what_is, (end, l)) run here =
+      let so = listed_then laws a f h asking plain folder x facts end (Some text) own before after l run here in
+      inr (
+        text,
+        ap (λ (what : List ℕ). refusals.Unsupported what text) what_is,
+        (ends_of (IsImageOf a f) (StopsAtTag a f text) (announced f x.end) before after
+            (record { first = x.first; end = x.end; to_go = facts.go; tagged = so.1; same = λ path. refl }) so.2).leaves,
+      )
+  tags_of_store x facts other own before after shows run here = absurd shows
+
   of_store : (refusal : Refusal) (own : List Event) (before after : StoreView) → Shows a refusal own → IsRun own before after → HasFiles f before → IsTableOf a.schema h
-      → IsOfStore refusal
+      → IsOfStore refusal ⊎ HasStopped a f refusal after
   of_store refusal own before after (inl shows) run here is =
-      reading_of_store f h folder a.schema is a refusal own before after shows run (still_run f own before after (reading_still a refusal own shows) run here).1
+      inl (reading_of_store f h folder a.schema is a refusal own before after shows run (still_run f own before after (reading_still a refusal own shows) run here).1)
   of_store refusal own before after (inr (inl (x, has))) run here is =
       let b = begun laws a f h asking plain folder x (announcing.Shows x refusal) own before after has run here in
       by b.facts b.rest b.middle b.then_rest b.run b.files.has
     where
       by : (facts : Facts laws a f h asking plain folder x) (rest : List Event) (middle : StoreView) → announcing.Shows x refusal rest → IsRun rest middle after
-          → HasFiles f middle → IsOfStore refusal
-      by facts rest middle (inl shows) run here = floor_of_store x refusal rest shows
-      by facts rest middle (inr has) run here =
+          → HasFiles f middle → IsOfStore refusal ⊎ HasStopped a f refusal after
+      by facts rest middle (inl shows) run here = inl (floor_of_store x refusal rest shows)
+      by facts rest middle (inr (inr shows)) run here = tags_of_store x facts refusal rest middle after shows run here
+      by facts rest middle (inr (inl has)) run here =
           let g : Files = announced f x.end in
           let fl = floored laws a f h asking plain folder x facts (consumers.Shows refusal) rest middle after has run here in
           let told = (still_run g fl.rest fl.middle after (consumers_calls.shows_calls refusal fl.rest fl.then_rest) fl.run fl.files.has).1 in
-          consumers_of_store g h (g_folder laws a f h asking plain folder x facts) a.schema is fl.middle after refusal fl.rest fl.then_rest told fl.run.trace
+          inl (consumers_of_store g h (g_folder laws a f h asking plain folder x facts) a.schema is fl.middle after refusal fl.rest fl.then_rest told fl.run.trace)
   of_store refusal own before after (inr (inr (inl (v, within, has)))) run here is =
       let n : Announced = v.announced in
       let P : List Event → Type 0 = whole.Shows (asked_at n v.id) refusal in
@@ -310,23 +333,24 @@ module _ (laws : Laws) (reads : ReadLaws) (a : Asking) (f : Files) (h : History)
       let told = (still_run G w.rest w.middle after (whole_shows_still (asked_at n v.id) refusal w.rest w.then_rest) w.run w.files.has).1 in
       let count = r.then_rest.count in
       let end = r.end in
-      view_of_table n b.facts v.id refusal w.rest (omega (arith, count)) (omega (arith, within, end)) w.then_rest told h refl
-      (g_folder laws a f h asking plain folder n.found b.facts) is
+      inl (view_of_table n b.facts v.id refusal w.rest (omega (arith, count)) (omega (arith, within, end)) w.then_rest told h refl
+      (g_folder laws a f h asking plain folder n.found b.facts) is)
   of_store refusal own before after (inr (inr (inr (inl (n, has))))) run here is =
       let all = has.then_rest.then_rest in
-      remover_of_store all.1 refusal all.3.rest all.3.then_rest
-  of_store refusal own before after (inr (inr (inr (inr (memory, ends))))) run here is = subst IsOfStore (sym memory) tt
+      inl (remover_of_store all.1 refusal all.3.rest all.3.then_rest)
+  of_store refusal own before after (inr (inr (inr (inr (memory, ends))))) run here is = inl (subst IsOfStore (sym memory) tt)
 
-caused : (a : Asking) (refusal : Refusal) (own : List Event) (before after : StoreView) → IsOfStore refusal → Shows a refusal own → Traces own before after
-    → IsCaused before after refusal
-caused a refusals.Memory own before after of shows trace = tt
-caused a (refusals.StoreFault path) own before after of shows trace = fault_rose own before after (shows_fault a path own shows) trace
-caused a other own before after of shows trace = absurd of
+caused : (a : Asking) (f : Files) (refusal : Refusal) (own : List Event) (before after : StoreView) → IsOfStore refusal ⊎ HasStopped a f refusal after → Shows a refusal own
+    → Traces own before after → IsRefusedFor a f before after refusal
+caused a f refusal own before after (inr (name, is, stops)) shows trace = subst (IsRefusedFor a f before after) (sym is) (refl, stops)
+caused a f refusals.Memory own before after (inl of) shows trace = tt
+caused a f (refusals.StoreFault path) own before after (inl of) shows trace = fault_rose own before after (shows_fault a path own shows) trace
+caused a f other own before after (inl of) shows trace = absurd of
 
 pub causes : Laws → ReadLaws → (a : Asking) (refusal : Refusal) (own : List Event) (before after : StoreView) (f : Files) (h : History) → IsAsking a
     → HavePlainNames a.schema → DidExpire a (Err refusal) own → Traces own before after → IsAlone before after → HasFiles f before → Folder f h
-    → IsCaused before after refusal
+    → IsRefusedFor a f before after refusal
 causes laws reads a refusal own before after f h asking plain (from, shows) trace alone here folder =
     let run : IsRun own before after = record { trace = trace; alone = alone } in
     let is = table_at laws a f h asking plain folder own before after from run here in
-    caused a refusal own before after (of_store laws reads a f h asking plain folder refusal own before after shows run here is) shows trace
+    caused a f refusal own before after (of_store laws reads a f h asking plain folder refusal own before after shows run here is) shows trace

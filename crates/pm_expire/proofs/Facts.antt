@@ -213,6 +213,7 @@ module _ (laws : Laws) (me : Actor) (f : Files) (p : Past) (stands : Stands f p)
   announced_stands : (m : announce_phase.Phase) (after : Files) (later : Past) → announcing_meaning.Makes me m f p after later → Stands after later
   announced_stands (announcers.Announce x) after later change = laws.stays me f after p later stands change.advances
   announced_stands (announcers.Consumers x c) after later change = past_same after later change
+  announced_stands (announcers.Tags a) after later change = past_same after later change
   announced_stands (announcers.Announced a) after later change = past_same after later change
   announced_stands announcers.Over after later change = past_same after later change
 

@@ -4,6 +4,7 @@ use Rattle.std.proofs.Common.{◌≡◌, ◌⊎◌, inl, inr, ℕ, suc, ◌-◌,
 use Rattle.std.specs.List.{AllZip}
 use Rattle.pm_values.specs.declared.refusal.Refusal.{Refusal}
 use Rattle.pm_values.specs.declared.refusal.Refusal.TheVariants as refusals
+use Rattle.pm_store.specs.declared.answer.Answer.TheVariants as answers
 use Rattle.pm_store.specs.declared.answer.Made as floor
 use Rattle.pm_store.specs.declared.call.Call.{Call}
 use Rattle.pm_machine.specs.Step.{path_of}
@@ -28,14 +29,15 @@ use Rattle.pm_read_expiry.specs.Trace as reading
 use Rattle.pm_read_expiry.specs.Trace.{HasFloors, HasIds, HasLines, ShowsOfConsumers, ShowsOfFloors, all_read, listed_floors, none_listed}
 use Rattle.pm_read_expiry.specs.declared.asking.Asking.{Asking}
 use Rattle.pm_read_expiry.specs.declared.asking.Found.{Found}
-use Rattle.pm_announce.specs.Announcer.{announce_call, end_after}
+use Rattle.pm_announce.specs.Announcer.{announce_call, end_after, tags_call}
+use Rattle.pm_announce.specs.Tags.{first_tag, unbuilt_tag}
 use Rattle.pm_announce.specs.Trace as announcing
 use Rattle.pm_announce.specs.declared.phase.Announced.{Announced}
 use Rattle.pm_expire_end.specs.Expiry.{first_id, last_id}
 use Rattle.pm_expire.specs.AllCalls.{DidExpire}
 use Rattle.pm_expire.specs.Trace.{asked_at, HasAll, HasAnnounced, HasExpired, HasFound, HasViews, Shows, ShowsOfRemover, ShowsOfView, kept_all, kept_all_then, removed}
 use Rattle.pm_expire.specs.declared.all_calls.Kept.{Kept}
-use Rattle.pm_expire.proofs.OneReadLemmas.{Bounds, EndsConsumers, EndsConsumersAs, EndsFirst, EndsFloors, EndsFromConsumers, EndsFromFloors, EndsFromIds, EndsLines, EndsSchemaAs, EndsTimesAs, FoundAt, HasConsumers, HasFirst, HasFromFloors, HasIdsFirst, HasSchema, HasTimes, ListsFloors, ListsIds, Made, at_lines, at_schema, bounds, consumers_led, consumers_part, consumers_shown, first_part, ids_first_part, ids_led, kept_of, lines, lines_after, none_there, reads_first, refused, snapshots_shown, times_after}
+use Rattle.pm_expire.proofs.OneReadLemmas.{Bounds, EndsConsumers, EndsConsumersAs, EndsFirst, EndsFloors, EndsFromConsumers, EndsFromFloors, EndsFromIds, EndsLines, EndsSchemaAs, EndsTimesAs, FoundAt, HasConsumers, HasFirst, HasFromFloors, HasIdsFirst, HasSchema, HasTimes, ListsFloors, ListsIds, Made, at_lines, at_schema, bounds, consumers_led, consumers_part, consumers_shown, first_part, ids_first_part, ids_led, kept_of, lines, lines_after, listed_answered, none_there, reads_first, refused, same_listed, snapshots_shown, times_after}
 use Rattle.pm_expire.proofs.OneViewLemmas as views
 use Rattle.pm_expire.proofs.OneViewLemmas.{EndsViews, has_views, views_part, views_shown, whole_shown}
 use Rattle.pm_expire.proofs.PartLemmas.{AreAnswered, EndsAs, EndsEither, EndsOn, HasEvent, HasOn, IsPart, IsShown, IsTail, NoEnd, event_part, failed_shown, fails_moved, no_tail, of_end, of_failure, of_memory, one_shown, part_as, part_on, shown_as, shown_first, shown_then, then_tail}
@@ -60,6 +62,16 @@ StopsThen v next made = (end_of v next ≡ v.first) × (made ≡ kept_of (end_of
 abbrev GoesThen : Bounds → Option ℕ → Type 0
 GoesThen v next = v.first < end_of v next
 
+-- the tags were listed, and this is the first, if there is one
+abbrev ListsTags : Option (List ℕ) → Event → Type 0
+ListsTags tag event = (files : schema_reader.Names) × (first_tag files.items ≡ tag) × (event.answer ≡ Some (answers.Listed files))
+
+abbrev IsUntagged : Option (List ℕ) → Type 0
+IsUntagged tag = tag ≡ None
+
+abbrev StopsAtTag : Option (List ℕ) → Made → Type 0
+StopsAtTag tag made = (name : List ℕ) × (tag ≡ Some name) × (made ≡ refused (unbuilt_tag name))
+
 -- how many views are read
 abbrev count_of : Bounds → Option ℕ → ℕ
 count_of v next = suc (end_of v next) - v.first
@@ -81,6 +93,15 @@ HasAllViews v next u own = views.HasViews v.schema (count_of v next) v.first u o
 abbrev EndsFromViews : Bounds → Option ℕ → Made → List Event → Type 0
 EndsFromViews v next made own = EndsEither (HasAllViews v next) (EndsViewsAs v next) (λ (u : Unit {0}). EndsRemoved v next) made own
 
+abbrev HasTags : Option (List ℕ) → List Event → Type 0
+HasTags tag own = HasOn (HasEvent ListsTags) IsUntagged tag own
+
+abbrev EndsTags : Made → List Event → Type 0
+EndsTags made own = EndsOn (HasEvent ListsTags) NoEnd StopsAtTag made own
+
+abbrev EndsFromTags : Bounds → Option ℕ → Made → List Event → Type 0
+EndsFromTags v next made own = EndsEither HasTags EndsTags (λ (tag : Option (List ℕ)). EndsFromViews v next) made own
+
 abbrev HasAgain : Bounds → Option ℕ → List Event → Type 0
 HasAgain v next own = HasOn HasConsumers (GoesThen v) next own
 
@@ -88,7 +109,7 @@ abbrev EndsAgain : Bounds → Made → List Event → Type 0
 EndsAgain v made own = EndsOn HasConsumers EndsConsumersAs (StopsThen v) made own
 
 abbrev EndsFromAgain : Bounds → Made → List Event → Type 0
-EndsFromAgain v made own = EndsEither (HasAgain v) (EndsAgain v) (EndsFromViews v) made own
+EndsFromAgain v made own = EndsEither (HasAgain v) (EndsAgain v) (EndsFromTags v) made own
 
 abbrev EndsFromFloor : Bounds → Made → List Event → Type 0
 EndsFromFloor v made own = EndsEither (HasEvent Announces) NoEnd (λ (u : Unit {0}). EndsFromAgain v) made own
@@ -112,6 +133,22 @@ removed_tail v next = record {
   answered = λ made own ends. ends.1;
 }
 
+tags_part : IsPart HasTags EndsTags
+tags_part =
+    part_on (HasEvent ListsTags) NoEnd StopsAtTag IsUntagged
+    (event_part ListsTags NoEnd one answer (λ tag event more made at ends. ends) no_tail)
+    (λ tag made other stops also. stops.2 ∙ ap (λ (name : List ℕ). refused (unbuilt_tag name)) (same_name stops.0 also.0 (sym stops.1 ∙ also.1)) ∙ sym also.2)
+    (λ tag made none stops. let clash : None ≡ Some stops.0 = sym none ∙ stops.1 in cc)
+  where
+    same_name : (name other : List ℕ) → Some name ≡ Some other → name ≡ other
+    same_name name other same = cc
+
+    one : (tag other : Option (List ℕ)) (event : Event) → ListsTags tag event → ListsTags other event → tag ≡ other
+    one tag other event (files, first, is) (others, also, was) = sym first ∙ ap first_tag (same_listed files others event is was) ∙ also
+
+    answer : (tag : Option (List ℕ)) (event : Event) → ListsTags tag event → IsAnswered event
+    answer tag event (files, first, is) = listed_answered files event is
+
 module _ (laws : OneLaws) where
   from_views : (v : Bounds) (next : Option ℕ) → IsTail (EndsFromViews v next)
   from_views v next =
@@ -119,13 +156,16 @@ module _ (laws : OneLaws) where
       (part_as (HasAllViews v next) (EndsViews v.schema (count_of v next) v.first) refused (views_part laws v.schema (count_of v next) v.first))
       (λ u. removed_tail v next)
 
+  from_tags : (v : Bounds) (next : Option ℕ) → IsTail (EndsFromTags v next)
+  from_tags v next = then_tail HasTags EndsTags (λ (tag : Option (List ℕ)). EndsFromViews v next) tags_part (λ tag. from_views v next)
+
   again_part : (v : Bounds) → IsPart (HasAgain v) (EndsAgain v)
   again_part v =
       part_on HasConsumers EndsConsumersAs (StopsThen v) (GoesThen v) (part_as HasConsumers EndsConsumers refused consumers_part)
       (λ next made other stops also. stops.1 ∙ sym also.1) (λ next made goes stops. not_less v.first (end_of v next) goes stops.0)
 
   from_again : (v : Bounds) → IsTail (EndsFromAgain v)
-  from_again v = then_tail (HasAgain v) (EndsAgain v) (EndsFromViews v) (again_part v) (from_views v)
+  from_again v = then_tail (HasAgain v) (EndsAgain v) (EndsFromTags v) (again_part v) (from_tags v)
 
   from_floor : (v : Bounds) → IsTail (EndsFromFloor v)
   from_floor v =
@@ -327,9 +367,43 @@ floor_shown x (refusals.StoreFault path) own (at, is) =
     of_failure (refusals.StoreFault path) refl ([], announce_call x, ap (λ (path : List ℕ). refusals.StoreFault path) at, is)
 floor_shown x other own shows = absurd shows
 
+-- the consumers were read again, a snapshot is to go still, and then the tags were listed
+tags_then : (x : Found) (end : ℕ) (tag : Option (List ℕ)) (made : Made) (rest own : List Event) (l : announcing.HasListed x end tag own)
+    → ((next : Option ℕ) → end ≡ end_of (bounds_of x) next → Shown (EndsFromTags (bounds_of x) next) made (announcing.listed_tags l.files ∷ rest))
+    → Shown (EndsFromFloor (bounds_of x)) made (own ++ rest)
+tags_then x end tag made rest own l then = by l.to_list.1
+  where
+    by : announcing.HasRead x end l.earlier → Shown (EndsFromFloor (bounds_of x)) made (own ++ rest)
+    by (cs, next, least, is, f) =
+        let v : Bounds = bounds_of x in
+        let same : end ≡ end_of v next = is ∙ end_same x next in
+        let last : List Event = announcing.listed_tags l.files ∷ rest in
+        floor_then v x f.answer made (f.rest ++ last) (own ++ rest)
+        (ap (λ (own : List Event). own ++ rest) l.is ∙ append_assoc l.earlier (announcing.listed_tags l.files ∷ []) rest
+        ∙ ap (λ (earlier : List Event). earlier ++ last) f.is)
+        (shown_then refused (HasAgain v) (EndsAgain v) (EndsFromTags v) next f.rest last (f.rest ++ last) made
+        (consumers_led cs next f.rest f.then_consumers least, subst (λ (end : ℕ). x.first < end) same l.to_list.0) refl (then next same))
+
+-- a tag is there
+tag_shown : (x : Found) (end : ℕ) (name : List ℕ) (made : Made) (own : List Event) → made ≡ refused (unbuilt_tag name)
+    → announcing.HasListed x end (Some name) own → Shown (EndsFromFloor (bounds_of x)) made own
+tag_shown x end name made own is l =
+    subst (Shown (EndsFromFloor (bounds_of x)) made) (append-nil own)
+    (tags_then x end (Some name) made [] own l
+    (λ next same. of_end (inl (inr (Some name, (announcing.listed_tags l.files, (l.files, l.first, refl), refl), (name, refl, is))))))
+
+tags_shown : (x : Found) (e : Refusal) (own : List Event) → announcing.ShowsOfTags x e own → Shown (EndsFromFloor (bounds_of x)) (refused e) own
+tags_shown x refusals.Memory own shows = of_memory refl
+tags_shown x (refusals.StoreFault path) own (end, earlier, to_list, at, is) =
+    of_failure (refusals.StoreFault path) refl (earlier, tags_call, ap (λ (path : List ℕ). refusals.StoreFault path) at, is)
+tags_shown x (refusals.Unsupported what text) own (what_is, (end, l)) =
+    tag_shown x end text (refused (refusals.Unsupported what text)) own (ap (λ (what : List ℕ). refused (refusals.Unsupported what text)) what_is) l
+tags_shown x other own shows = absurd shows
+
 announcer_shown : (x : Found) (e : Refusal) (own : List Event) → announcing.Shows x e own → Shown (EndsFromFloor (bounds_of x)) (refused e) own
 announcer_shown x e own (inl shows) = floor_shown x e own shows
-announcer_shown x e own (inr f) =
+announcer_shown x e own (inr (inr shows)) = tags_shown x e own shows
+announcer_shown x e own (inr (inl f)) =
     floor_then (bounds_of x) x f.answer (refused e) f.rest own f.is
     (again_on (bounds_of x) (refused e) f.rest (shown_as refused EndsConsumers e f.rest (consumers_shown e f.rest f.then_consumers)))
 
@@ -346,15 +420,12 @@ again_stops n made own (cs, next, least, end, f) none is =
 announced_then : (n : Announced) (P : List Event → Type 0) (made : Made) (own : List Event) → HasAnnounced n P own
     → ((next : Option ℕ) → n.end ≡ end_of (bounds_of n.found) next → (rest : List Event) → P rest → Shown (EndsFromViews (bounds_of n.found) next) made rest)
     → Shown (EndsFromFloor (bounds_of n.found)) made own
-announced_then n P made own h then = by h.read
-  where
-    by : announcing.HasRead n.found n.end h.announces → Shown (EndsFromFloor (bounds_of n.found)) made own
-    by (cs, next, least, end, f) =
-        let same : n.end ≡ end_of (bounds_of n.found) next = end ∙ end_same n.found next in
-        floor_then (bounds_of n.found) n.found f.answer made (f.rest ++ h.rest) own (h.is ∙ ap (λ (announces : List Event). announces ++ h.rest) f.is)
-        (shown_then refused (HasAgain (bounds_of n.found)) (EndsAgain (bounds_of n.found)) (EndsFromViews (bounds_of n.found)) next f.rest h.rest
-        (f.rest ++ h.rest) made
-        (consumers_led cs next f.rest f.then_consumers least, subst (λ (end : ℕ). n.found.first < end) same h.some) refl (then next same h.rest h.then_rest))
+announced_then n P made own h then =
+    subst (Shown (EndsFromFloor (bounds_of n.found)) made) (sym h.is)
+    (tags_then n.found n.end None made h.rest h.announces h.listed (λ next same.
+    shown_then refused HasTags EndsTags (λ (tag : Option (List ℕ)). EndsFromViews (bounds_of n.found) next) None (announcing.listed_tags h.listed.files ∷ []) h.rest
+    (announcing.listed_tags h.listed.files ∷ h.rest) made
+    ((announcing.listed_tags h.listed.files, (h.listed.files, h.listed.first, refl), refl), refl) refl (then next same h.rest h.then_rest)))
 
 -- ---- the removes
 

@@ -86,12 +86,12 @@ listed_in : Option Answer → List (List ℕ)
 listed_in (Some (answers.Listed names)) = names.items
 listed_in other = []
 
-same_listed : (names others : Names) (event : Event) → event.answer ≡ Some (answers.Listed names) → event.answer ≡ Some (answers.Listed others)
+pub same_listed : (names others : Names) (event : Event) → event.answer ≡ Some (answers.Listed names) → event.answer ≡ Some (answers.Listed others)
     → names.items ≡ others.items
 unfolding listed_in
 same_listed names others event is was = ap listed_in (sym is ∙ was)
 
-listed_answered : (names : Names) (event : Event) → event.answer ≡ Some (answers.Listed names) → IsAnswered event
+pub listed_answered : (names : Names) (event : Event) → event.answer ≡ Some (answers.Listed names) → IsAnswered event
 listed_answered names event is = subst (λ (o : Option Answer). IsSome o) (sym is) refl
 
 abbrev pub ListsIds : List ℕ → Event → Type 0

@@ -132,6 +132,7 @@ remover_left m answer new goes = absurd goes
 reached : (m : announce_phase.Phase) → announcing.Reaches (announcing.reached_at m) m → announcing.IsReady m ⊎ (0 < announcing.calls_left m)
 reached (announcers.Announce x) left = inr left
 reached (announcers.Consumers x c) left = inr left
+reached (announcers.Tags a) left = inr left
 reached (announcers.Announced a) ready = inl tt
 reached announcers.Over left = inr left
 

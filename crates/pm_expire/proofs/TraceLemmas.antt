@@ -1,5 +1,5 @@
 -- An expirer's own calls, and what they show.
-use Rattle.std.proofs.Common.{◌≡◌, inl, inr, ℕ, ◌+◌, ◌≤◌, List, [], ◌∷◌, ◌++◌, length, Option, None, Some, IsSome, IfSome, refl, sym, ap, ◌∙◌, subst, arith, append_assoc}
+use Rattle.std.proofs.Common.{◌<◌, ◌≡◌, inl, inr, ℕ, ◌+◌, ◌≤◌, List, [], ◌∷◌, ◌++◌, length, Option, None, Some, IsSome, IfSome, refl, sym, ap, ◌∙◌, subst, arith, append_assoc}
 use Rattle.std.proofs.lemmas.List.{append-nil, length_push}
 use Rattle.std.proofs.lemmas.Option.{IfSome_then}
 use Rattle.pm_values.specs.declared.refusal.Refusal.{Refusal}
@@ -70,10 +70,9 @@ found_so a x P Q own has so = record {
 announced_with : (n : Announced) (P Q : List Event → Type 0) (own : List Event) (event : Event) → HasAnnounced n P own
     → ((rest : List Event) → P rest → Q (rest ++ event ∷ [])) → HasAnnounced n Q (own ++ event ∷ [])
 announced_with n P Q own event has grows = record {
-  some = has.some;
   announces = has.announces;
   rest = has.rest ++ event ∷ [];
-  read = has.read;
+  listed = has.listed;
   then_rest = grows has.rest has.then_rest;
   is = ap (λ (own : List Event). own ++ event ∷ []) has.is ∙ append_assoc has.announces has.rest (event ∷ []);
 }
@@ -81,7 +80,7 @@ announced_with n P Q own event has grows = record {
 announced_so : (n : Announced) (P Q : List Event → Type 0) (own : List Event) → HasAnnounced n P own → ((rest : List Event) → P rest → Q rest)
     → HasAnnounced n Q own
 announced_so n P Q own has so =
-    record { some = has.some; announces = has.announces; rest = has.rest; read = has.read; then_rest = so has.rest has.then_rest; is = has.is }
+    record { announces = has.announces; rest = has.rest; listed = has.listed; then_rest = so has.rest has.then_rest; is = has.is }
 
 views_with : (n : Announced) (id : ℕ) (d : DroppingView) (P Q : List Event → Type 0) (own : List Event) (event : Event) → HasViews n id d P own
     → ((rest : List Event) → P rest → Q (rest ++ event ∷ [])) → HasViews n id d Q (own ++ event ∷ [])
@@ -174,29 +173,48 @@ read_did a to new own (some_goes x at goes within is) did =
     subst (λ (m : Phase). Did a m own) (sym is) (x, begun)
 
 -- what was announced was found
-announced_of : (a : Asking) (x : Found) (n : Announced) (own : List Event) → HasFound a x (announcing_trace.Did x (announcers.Announced n)) own
-    → HasFound a n.found (announcing_trace.HasRead n.found n.end) own
-announced_of a x n own has =
+announced_of : (a : Asking) (x : Found) (n : Announced) (P : Found → List Event → Type 0) (own : List Event)
+    → ((rest : List Event) → announcing_trace.Did x (announcers.Announced n) rest → P x rest)
+    → HasFound a x (announcing_trace.Did x (announcers.Announced n)) own → HasFound a n.found (P n.found) own
+announced_of a x n P own so has =
     let same : n.found ≡ x = has.then_rest.0 in
-    subst (λ (y : Found). HasFound a y (announcing_trace.HasRead y n.end) own) (sym same)
-    (record { to_announce = has.to_announce; reads = has.reads; rest = has.rest; found = has.found; then_rest = has.then_rest.1; is = has.is })
+    subst (λ (y : Found). HasFound a y (P y) own) (sym same)
+    (record { to_announce = has.to_announce; reads = has.reads; rest = has.rest; found = has.found; then_rest = so has.rest has.then_rest; is = has.is })
+
+-- where no snapshot is to go the consumers were read, and else the tags were listed
+none_read : (x : Found) (n : Announced) (own : List Event) → n.end ≡ n.found.first → announcing_trace.Did x (announcers.Announced n) own
+    → announcing_trace.HasRead x n.end own
+none_read x n own end (same, inl read) = read.1
+none_read x n own end (same, inr listed) =
+    let first = ap (λ (y : Found). y.first) same in
+    let less = listed.to_list.0 in
+    absurd (omega (arith, end, first, less))
+
+some_listed : (x : Found) (n : Announced) (own : List Event) → n.found.first < n.end → announcing_trace.Did x (announcers.Announced n) own
+    → announcing_trace.HasListed x n.end None own
+some_listed x n own less (same, inl read) =
+    let first = ap (λ (y : Found). y.first) same in
+    let none = read.0 in
+    absurd (omega (arith, less, first, none))
+some_listed x n own less (same, inr listed) = listed
 
 announce_did : (a : Asking) (x : Found) (to : announce_phase.Phase) (new : Phase) (own : List Event) → AfterAnnounce to new
     → HasFound a x (announcing_trace.Did x to) own → Did a new own
 announce_did a x to new own (announces_on more is) has = subst (λ (m : Phase). Did a m own) (sym is) (x, has)
 announce_did a x to new own (none_goes_then n at end is) has =
-    let read = announced_of a x n own (subst (λ (m : announce_phase.Phase). HasFound a x (announcing_trace.Did x m) own) at has) in
+    let read = announced_of a x n (λ y. announcing_trace.HasRead y n.end) own (λ rest did. none_read x n rest end did)
+    (subst (λ (m : announce_phase.Phase). HasFound a x (announcing_trace.Did x m) own) at has) in
     let expired : HasExpired a n.end n.found.last own = kept_all_then n end refl refl read in
     subst (λ (m : Phase). Did a m own) (sym is) expired
 announce_did a x to new own (views_first n d at order less none is) has =
-    let read = announced_of a x n own (subst (λ (m : announce_phase.Phase). HasFound a x (announcing_trace.Did x m) own) at has) in
+    let listed = announced_of a x n (λ y. announcing_trace.HasListed y n.end None) own (λ rest did. some_listed x n rest less did)
+    (subst (λ (m : announce_phase.Phase). HasFound a x (announcing_trace.Did x m) own) at has) in
     let views : HasFound a n.found (HasAnnounced n (HasViews n n.found.first d (whole_trace.Did (asked_at n n.found.first) (view_at n.found.schema n.found.first)))) own =
-    found_so a n.found (announcing_trace.HasRead n.found n.end) _ own read
-    (λ rest read. record {
-      some = less;
+    found_so a n.found (announcing_trace.HasListed n.found n.end None) _ own listed
+    (λ rest listed. record {
       announces = rest;
       rest = [];
-      read = read;
+      listed = listed;
       then_rest = record {
         none = d;
         are_none = none;
@@ -363,7 +381,7 @@ module _ (law : Joined) (a : Asking) where
       let (n, at) = ready_announced to ready in
       IfSome_then (announcing.next_call m) (went_announcer x m to answer own on has)
       (λ call did may. between refusal (own ++ answered call answer ∷ []) is (announced_then n
-      (announced_of a x n (own ++ answered call answer ∷ [])
+      (announced_of a x n (λ y. announcing_trace.HasEnded y n.end) (own ++ answered call answer ∷ []) (λ rest did. did.1)
       (subst (λ (m : announce_phase.Phase). HasFound a x (announcing_trace.Did x m) (own ++ answered call answer ∷ [])) at (did may)))))
   refused_on (phases.Announce m) answer refusal own (inr shown) (x, has) =
       IfSome_then (announcing.next_call m)

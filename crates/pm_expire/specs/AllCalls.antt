@@ -1,5 +1,5 @@
 -- What an expiry of a folder's files is where nobody else acts: its end, what goes with it, and what each image is.
-use Rattle.std.specs.Prelude.{◌≡◌, ◌↔◌, ◌⊎◌, ℕ, ◌<◌, ◌≤◌, List, [], Contains, Option, None, Some, IsSome}
+use Rattle.std.specs.Prelude.{◌≡◌, ◌↔◌, ◌⊎◌, ℕ, ◌<◌, ◌≤◌, List, [], Contains, codes, Option, None, Some, IsSome}
 use Rattle.std.specs.Prelude.{Result, Ok, Err}
 use Rattle.std.specs.Cmp.Lexicographic.{slice_cmp}
 use Rattle.std.specs.FinMap as map
@@ -10,6 +10,7 @@ use Rattle.pm_store.specs.Images.{Extends}
 use Rattle.pm_store.specs.Store.{StoreView}
 use Rattle.pm_store.specs.declared.call.Call.TheVariants as calls
 use Rattle.pm_values.specs.declared.refusal.Refusal.{Refusal}
+use Rattle.pm_values.specs.declared.refusal.Refusal.TheVariants as refusals
 use Rattle.pm_machine.specs.Trace.{Event}
 use Rattle.pm_create.specs.Making.{LeavesFiles}
 use Rattle.pm_remove.specs.Meaning.{AreSame, HasLost}
@@ -25,6 +26,7 @@ use Rattle.pm_model_history.specs.History.{History, IsTableOf}
 use Rattle.pm_model_expiry.specs.Removals.{removals}
 use Rattle.pm_expire_end.specs.Expiry.{expire_end_of}
 use Rattle.pm_read_schema.specs.AllCalls.{Stay}
+use Rattle.pm_read_latest.specs.AllCalls.{IsCaused}
 use Rattle.pm_snapshots.specs.AllCalls.{AreLinesOf, GoesOnFrom}
 use Rattle.pm_snapshots.specs.declared.line.SnapshotLine.{SnapshotLine}
 use Rattle.pm_consumers.specs.AllCalls.{AreConsumersOf}
@@ -32,6 +34,7 @@ use Rattle.pm_read_expiry.specs.Found.{IsNoneFound}
 use Rattle.pm_read_expiry.specs.Times.{times_of, IsLeastNext}
 use Rattle.pm_read_expiry.specs.declared.asking.Asking.{Asking}
 use Rattle.pm_read_expiry.specs.declared.asking.Found.{Found}
+use Rattle.pm_announce.specs.Tags.{IsFirstTag}
 use Rattle.pm_expire.specs.Trace.{HasExpired, Shows}
 use Rattle.pm_expire.specs.declared.all_calls.Kept.{Kept}
 
@@ -100,13 +103,21 @@ pub data IsImageOf (a : Asking) (f g : Files) : Type 0 where
       → HasLost (announced f end) paths g → IsImageOf a f g
 
 -- What became of the files, whose newest snapshot has this id, by the two numbers that are printed. None is there but
--- the origin, and no path changes; or all stay, and no path changes; or some go, and the others stay.
+-- the origin, and no path changes; or all stay, and no path changes; or some go, no tag is there, and the others stay.
 pub data Becomes (a : Asking) (newest : ℕ) (f g : Files) (first last : ℕ) : Type 0 where
   none_there : newest ≡ 0 → first ≡ 0 → last ≡ 0 → AreSame f g → Becomes a newest f g first last
   all_stay : IsEndIn a f first → IsFirst f a.schema first → last ≡ newest → AreSame f g
       → Becomes a newest f g first last
-  some_go : (least : ℕ) → HasToGo a f least first → last ≡ newest → HasGivenBack a.schema f first g
-      → Becomes a newest f g first last
+  some_go : (least : ℕ) → HasToGo a f least first → IsFirstTag f None → last ≡ newest
+      → HasGivenBack a.schema f first g → Becomes a newest f g first last
+
+-- Some are to go, and a tag is there, the least of this name: no path changes, but that the floor of their end is there.
+pub record StopsAtTag (a : Asking) (f : Files) (name : List ℕ) (g : Files) : Type 0 where
+  pub first : ℕ
+  pub end : ℕ
+  pub to_go : HasToGo a f first end
+  pub tagged : IsFirstTag f (Some name)
+  pub same : AreSame (announced f end) g
 
 -- What was found is so of these files, which stand for this history: no snapshot is there but the origin; or the end is
 -- that of the files, the first their least snapshot after the origin, and the last their newest.
@@ -148,6 +159,13 @@ DidExpire a (Err refusal) own = GoesOnFrom a.schema own × Shows a refusal own
 abbrev pub Leaves : Asking → ℕ → Files → Result Kept Refusal → Files → Type 0
 Leaves a newest f (Ok kept) g = Becomes a newest f g kept.first kept.last
 Leaves a newest f (Err refusal) g = IsImageOf a f g
+
+-- Why it is refused, where these files were there at the first call: a tag is there; or memory ran out, or a fault of
+-- the store was counted.
+abbrev pub IsRefusedFor : Asking → Files → StoreView → StoreView → Refusal → Type 0
+IsRefusedFor a f first after (refusals.Unsupported what text) =
+    (what ≡ codes "tag") × LeavesFiles (StopsAtTag a f text) after
+IsRefusedFor a f first after other = IsCaused first after other
 
 -- What an expiry does to the files that are there at its first call and stand for this history, where nobody else acts
 -- from then on: what it leaves of them by its answer, and that each image is one of an expiry that was stopped.

@@ -12,13 +12,13 @@ use Rattle.pm_model_history.specs.History.{IsTableOf}
 use Rattle.pm_model_folder.specs.Changes.{Actor}
 use Rattle.pm_model_folder.specs.Ledger.{Past, Stands}
 use Rattle.pm_create.specs.Making.{LeavesFiles}
-use Rattle.pm_read_schema.specs.Beside.{IsTold, OthersAdvance}
+use Rattle.pm_read_schema.specs.Beside.{OthersAdvance}
 use Rattle.pm_beside.specs.Bringing.{Brings}
 use Rattle.pm_snapshots.specs.AllCalls.{GoesOnFrom}
 use Rattle.pm_read_expiry.specs.declared.asking.Asking.{Asking}
 use Rattle.pm_read_expiry.specs.declared.asking.Found.{Found}
 use Rattle.pm_announce.specs.Meaning.{Announces}
-use Rattle.pm_expire.specs.Meaning.{Knows, KnowsDone, Removes}
+use Rattle.pm_expire.specs.Meaning.{IsTold, Knows, KnowsDone, Removes}
 use Rattle.pm_expire.specs.Trace.{Did}
 use Rattle.pm_expire.specs.declared.all_calls.Kept.{Kept}
 use Rattle.pm_expire.specs.declared.phase.Phase.{Phase}

@@ -49,7 +49,7 @@ next_call phases.Over = None
 
 -- how many calls the announcer and the reader of a whole view make at most, and how many paths are removed
 abbrev pub announce_calls : ℕ
-announce_calls = consumers.calls_left consumer_listers.List + 1
+announce_calls = consumers.calls_left consumer_listers.List + 2
 
 abbrev pub view_calls : ℕ
 view_calls = (most + 4) + (most + 3)
@@ -65,6 +65,7 @@ calls_to id end = (end - id) * view_calls + (most_paths + 1)
 abbrev pub views_left : announce_phase.Phase → ℕ
 views_left (announcers.Announce x) = view_calls + calls_to x.first x.end
 views_left (announcers.Consumers x c) = view_calls + calls_to x.first x.end
+views_left (announcers.Tags a) = view_calls + calls_to a.found.first a.found.end
 views_left other = 0
 
 -- how many calls are left at most, where no refusal comes
@@ -146,8 +147,8 @@ pub record AreNone (d : DroppingView) : Type 0 where
   pub kept : (path : List ℕ) → Contains d.kept path → ⊥
   pub gone : (path : List ℕ) → Contains d.gone path → ⊥
 
--- once the consumers were read again: where no snapshot is to go any more it is done, and else it reads the view of the
--- first
+-- once the end that was announced is known: where no snapshot is to go any more it is done, and else it reads the view
+-- of the first
 pub data AfterAnnounce (m : announce_phase.Phase) (later : Phase) : Type 0 where
   announces_on : (announcing.IsReady m → ⊥) → later ≡ phases.Announce m → AfterAnnounce m later
   none_goes_then : (a : Announced) → m ≡ announcers.Announced a → a.end ≡ a.found.first

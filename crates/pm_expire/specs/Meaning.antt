@@ -2,6 +2,7 @@
 use Rattle.std.specs.Prelude.{◌≡◌, ◌≢◌, ◌↔◌, ℕ, ◌+◌, ◌<◌, ◌≤◌, List, ◌∷◌, Contains}
 use Rattle.std.specs.FinMap as map
 use Rattle.pm_values.specs.declared.refusal.Refusal.{Refusal}
+use Rattle.pm_values.specs.declared.refusal.Refusal.TheVariants as refusals
 use Rattle.pm_store.specs.Files.{Files}
 use Rattle.pm_store.specs.Store.{StoreView}
 use Rattle.pm_machine.specs.Moves.{IsKept, Moves}
@@ -15,7 +16,6 @@ use Rattle.pm_schema.specs.declared.schema.TableSchema.{TableSchema}
 use Rattle.pm_remove.specs.declared.phase.Phase as remove_phase
 use Rattle.pm_remove.specs.declared.phase.Phase.TheVariants as removers
 use Rattle.pm_expire_paths.specs.Dropping.{IsSeen}
-use Rattle.pm_read_schema.specs.Beside.{IsTold}
 use Rattle.pm_read_whole.specs.Meaning as whole
 use Rattle.pm_read_whole.specs.declared.phase.Phase as whole_phase
 use Rattle.pm_read_expiry.specs.Meaning as reading
@@ -97,6 +97,17 @@ Knows (phases.View v m) f p = KnowsView v m f p
 Knows (phases.Remove first last m) f p = KnowsRemover first last m f p
 Knows (phases.Done first last) f p = KnowsDone first last f p
 Knows phases.Over f p = Unit {0}
+
+-- The refusals that answers show where the files stand, whatever others do: a snapshot that it reads has gone; a tag is
+-- there; or memory ran out.
+abbrev pub MayRefuse : Files → Past → Refusal → Type 0
+MayRefuse f p (refusals.Unsupported what text) = announcing.MayRefuse f (refusals.Unsupported what text)
+MayRefuse f p other = reading.MayRefuse f p other
+
+-- what is told of a step that is refused: where the store failed nothing, and else that
+abbrev pub IsTold : Refusal → Files → Past → Type 0
+IsTold (refusals.StoreFault path) f p = Unit {0}
+IsTold other f p = MayRefuse f p other
 
 -- Whoever expires: a step makes one of these changes, or none, and what the expirer knows holds after it.
 abbrev pub ExpirerMoved : Phase → Phase → StoreView → StoreView → Type 0

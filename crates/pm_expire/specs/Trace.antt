@@ -1,5 +1,5 @@
 -- An expirer's own calls, and what they show.
-use Rattle.std.specs.Prelude.{◌≡◌, ◌⊎◌, ℕ, ◌+◌, ◌<◌, ◌≤◌, List, [], ◌∷◌, ◌++◌, length, Result, IfErr}
+use Rattle.std.specs.Prelude.{◌≡◌, ◌⊎◌, ℕ, ◌+◌, ◌≤◌, List, [], ◌∷◌, ◌++◌, length, None, Result, IfErr}
 use Rattle.pm_values.specs.declared.refusal.Refusal.{Refusal}
 use Rattle.pm_values.specs.declared.refusal.Refusal.TheVariants as refusals
 use Rattle.pm_store.specs.Store.{StoreView}
@@ -34,12 +34,11 @@ pub record HasFound (a : Asking) (x : Found) (P : List Event → Type 0) (own : 
   pub then_rest : P rest
   pub is : own ≡ reads ++ rest
 
--- its end was announced, the consumers read again, and a snapshot is to go still
+-- its end was announced, the consumers were read again, a snapshot is to go still, and no tag was listed
 pub record HasAnnounced (n : Announced) (P : List Event → Type 0) (own : List Event) : Type 0 where
-  pub some : n.found.first < n.end
   pub announces : List Event
   pub rest : List Event
-  pub read : announcing.HasRead n.found n.end announces
+  pub listed : announcing.HasListed n.found n.end None announces
   pub then_rest : P rest
   pub is : own ≡ announces ++ rest
 
@@ -87,9 +86,9 @@ pub data HasExpired (a : Asking) (first last : ℕ) (own : List Event) : Type 0 
 
 -- ---- what they show
 
--- memory ran out once the consumers were read again, or once a view was read
+-- memory ran out once the end that was announced was known, or once a view was read
 pub data EndsBetween (a : Asking) (own : List Event) : Type 0 where
-  announced_then : (n : Announced) → HasFound a n.found (announcing.HasRead n.found n.end) own → EndsBetween a own
+  announced_then : (n : Announced) → HasFound a n.found (announcing.HasEnded n.found n.end) own → EndsBetween a own
   viewed_then : (v : Views) (m : whole_phase.Phase) → IsReady m
       → HasFound a v.announced.found (HasAnnounced v.announced
       (HasViews v.announced v.id v.dropping (whole.Did (asked_at v.announced v.id) m))) own → EndsBetween a own

@@ -98,8 +98,7 @@ pub(crate) fn after_announce(
     }
 }
 
-/// The phase with this announcer: the first view is to be read once the consumers were, where a snapshot is to go
-/// still.
+/// The phase with this announcer: the first view is to be read once its end is known, where a snapshot is to go still.
 fn with_announcer(alloc: Global, announcer: Announcer) -> Result<Phase, Refusal>
     requires left { announcing.IsReady announcer ⊎ (0 < announcing.calls_left announcer) }
     ensures goes { IfOk result (AfterAnnounce announcer) }
@@ -114,14 +113,14 @@ fn with_announcer(alloc: Global, announcer: Announcer) -> Result<Phase, Refusal>
     }
 }
 
-/// Whether the consumers were read again.
+/// Whether its end is known.
 fn is_announced(announcer: &Announcer) -> bool
     ensures { IsTrue result ↔ announcing.IsReady announcer.now }
 {
     matches!(announcer.phase(), AnnouncePhase::Announced { .. })
 }
 
-/// The phase once the consumers were read again.
+/// The phase once the end that was announced is known.
 fn with_announced(alloc: Global, announcer: Announcer) -> Result<Phase, Refusal>
     requires { announcing.IsReady announcer }
     ensures goes { IfOk result (AfterAnnounce announcer) }

@@ -31,12 +31,13 @@ ghost use Rattle.pm_store.specs.Files.{Files};
 ghost use Rattle.pm_store.specs.Images.{MayLeave};
 ghost use Rattle.pm_store.specs.Store.{StoreView, IsAlone};
 ghost use Rattle.pm_read_schema.specs.AllCalls.{HasFiles};
-ghost use Rattle.pm_read_schema.specs.Beside.{IsTold};
 ghost use Rattle.pm_read_expiry.specs.declared.asking.Asking.{Asking};
 ghost use Rattle.pm_expire.specs.AllCalls.{announced, AreRemovalsOf, ChangesAt, DidExpire, ExpiresFiles, FindsAlone};
-ghost use Rattle.pm_expire.specs.AllCalls.{HasGivenBack, HasToGo, IsEndIn, IsFirst, IsImageOf, KeepsAll, SparesFrom};
+ghost use Rattle.pm_expire.specs.AllCalls.{HasGivenBack, HasToGo, IsEndIn, IsFirst, IsImageOf, IsRefusedFor};
+ghost use Rattle.pm_expire.specs.AllCalls.{KeepsAll, SparesFrom};
 ghost use Rattle.pm_expire.specs.Expirer.{next_call, Goes, IsExpirer, Shown};
-ghost use Rattle.pm_expire.specs.Meaning.{Knows, KnowsBeside, KnowsDone, Makes, MakesBeside, StandsBeside};
+ghost use Rattle.pm_expire.specs.Meaning.{Knows, KnowsBeside, KnowsDone, Makes, MakesBeside, MayRefuse};
+ghost use Rattle.pm_expire.specs.Meaning.{StandsBeside};
 ghost use Rattle.pm_expire.specs.Trace.{Did, Shows};
 ghost use Rattle.pm_expire_end.specs.Expiry.{KeepsMore};
 ghost use Rattle.pm_remove.specs.Meaning.{HasLost, IsWithout};
@@ -44,7 +45,6 @@ ghost use Rattle.pm_snapshot.specs.Names.{greatest};
 ghost use Rattle.pm_read_expiry.specs.Found.{IsAsking};
 ghost use Rattle.pm_values.specs.declared.refusal.Refusal.{Refusal};
 ghost use Rattle.pm_values.specs.declared.refusal.Refusal.TheVariants as refusals;
-ghost use Rattle.pm_read_latest.specs.AllCalls.{IsCaused};
 ghost use Rattle.pm_expire.specs.declared.all_calls.Kept.{Kept};
 ghost use Rattle.pm_expire.specs.declared.phase.Phase.{Phase};
 ghost use Rattle.pm_expire.specs.declared.phase.Phase.TheVariants as phases;
@@ -94,12 +94,13 @@ pub fn known_law()
     pm_read_whole::known_law();
 }
 
-/// Whatever others do between its calls, a folder that stands shows an expirer no refusal but that memory ran out, or
-/// that a snapshot which it reads has gone. So E10 and E11 never come of such a folder.
+/// Whatever others do between its calls, a folder that stands shows an expirer no refusal but that memory ran out, that
+/// a snapshot which it reads has gone, or the first tag, where one is there. So E9, E11 and E12 never come of such a
+/// folder.
 pub fn causes_law()
     ensures { (m : Phase) (call : Call) (answer : Answer) (refusal : Refusal) (f : Files) (p : Past) → Stands f p
         → IsExpirer m → Knows m f p → next_call m ≡ Some call → Answers call answer f → Shown m answer refusal
-        → IsTold refusal f p }
+        → MayRefuse f p refusal }
 {
     pm_read_whole::causes_law();
 }
@@ -223,12 +224,12 @@ pub fn all_calls_law()
     pm_remove::alone_law();
 }
 
-/// Where nobody else acts a refusal comes of memory or of a fault that was counted alone: no file is damaged, none was
-/// lost, and no snapshot has gone that was listed.
+/// Where nobody else acts a refusal comes of a tag, of memory or of a fault that was counted alone: no file is damaged,
+/// none was lost, and no snapshot has gone that was listed.
 pub fn alone_causes_law()
     ensures { (a : Asking) (refusal : Refusal) (own : List Event) (before after : StoreView) (f : Files) (h : History)
         → IsAsking a → HavePlainNames a.schema → DidExpire a (Err refusal) own → Traces own before after
-        → IsAlone before after → HasFiles f before → Folder f h → IsCaused before after refusal }
+        → IsAlone before after → HasFiles f before → Folder f h → IsRefusedFor a f before after refusal }
 {
     given_back_law();
     joined_law();

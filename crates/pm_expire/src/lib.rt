@@ -1,12 +1,12 @@
 //! The machine of `expire`: it removes a table's oldest snapshots, and what they alone need.
 //!
 //! An `Expirer` reads what it needs to know (`pm_read_expiry`): snapshots with their times, floors and consumers. Where
-//! no snapshot is to go it is done. Else it announces its end by a floor and reads the consumers again (`pm_announce`),
-//! which may lower the end. It reads the whole view of each snapshot from the first on, up to the end, and then removes
-//! (`pm_remove`): the origin and the snapshots below the end, rising; the files that these named and the one at the end
-//! doesn't; and the floors below its own that it had listed. So whatever it leaves when it is stopped, each snapshot
-//! that is there has all that it needs; of what gone snapshots needed some files may be left, which no later expiry
-//! knows of.
+//! no snapshot is to go it is done. Else it announces its end by a floor, reads the consumers again, which may lower the
+//! end, and goes no further where a tag is there (`pm_announce`). It reads the whole view of each snapshot from the
+//! first on, up to the end, and then removes (`pm_remove`): the origin and the snapshots below the end, rising; the
+//! files that these named and the one at the end doesn't; and the floors below its own that it had listed. So whatever
+//! it leaves when it is stopped, each snapshot that is there has all that it needs; of what gone snapshots needed some
+//! files may be left, which no later expiry knows of.
 //!
 //! `specs/Expirer.antt` has its phases, its calls and what each answer leads to; `specs/Meaning.antt` what it knows of
 //! the table in each phase, whatever others do, and what it may change; `specs/Trace.antt` which calls it made, and

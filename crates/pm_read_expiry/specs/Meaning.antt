@@ -1,9 +1,12 @@
 -- What a reader of what an expiry needs to know knows of the table, whatever others do.
 use Rattle.std.specs.Prelude.{◌≡◌, ◌⊎◌, ℕ, ◌-◌, ◌≤◌, Contains}
+use Rattle.pm_values.specs.declared.refusal.Refusal.{Refusal}
+use Rattle.pm_values.specs.declared.refusal.Refusal.TheVariants as refusals
 use Rattle.pm_store.specs.Files.{Files}
 use Rattle.pm_model_history.specs.History.{IsTableOf}
 use Rattle.pm_model_folder.specs.Ledger.{IsKnown, Past}
 use Rattle.pm_model_expiry.specs.Expiry.{HaveGoneBetween}
+use Rattle.pm_read_schema.specs.Beside.{IsExpired}
 use Rattle.pm_snapshots.specs.Meaning.{IsReadingIn}
 use Rattle.pm_snapshots.specs.Reading.{IsReading, ReadingView}
 use Rattle.pm_snapshots.specs.declared.phase.Phase as listing
@@ -45,3 +48,15 @@ Knows (phases.Consumers l c) f p = KnowsLister l.asking l.lister f p
 Knows (phases.Times l next) f p = KnowsLister l.asking l.lister f p
 Knows (phases.Ready x) f p = KnowsFound x f p
 Knows phases.Over f p = Unit {0}
+
+-- The refusals that answers show where the files stand, whatever others do: a snapshot that was listed has gone, or
+-- memory ran out. The table is there, and no file is damaged.
+abbrev pub MayRefuse : Files → Past → Refusal → Type 0
+MayRefuse f p refusals.Memory = Unit {0}
+MayRefuse f p (refusals.Expired id) = IsExpired f p id
+MayRefuse f p other = ⊥
+
+-- what is told of a step that is refused: where the store failed nothing, and else that
+abbrev pub IsTold : Refusal → Files → Past → Type 0
+IsTold (refusals.StoreFault path) f p = Unit {0}
+IsTold other f p = MayRefuse f p other

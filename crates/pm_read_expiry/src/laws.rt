@@ -10,8 +10,7 @@ ghost use Rattle.pm_store.specs.declared.call.Call.{Call};
 ghost use Rattle.pm_store.specs.Files.{Files};
 ghost use Rattle.pm_store.specs.Images.{MayLeave};
 ghost use Rattle.pm_values.specs.declared.refusal.Refusal.{Refusal};
-ghost use Rattle.pm_read_schema.specs.Beside.{IsTold};
-ghost use Rattle.pm_read_expiry.specs.Meaning.{Knows};
+ghost use Rattle.pm_read_expiry.specs.Meaning.{Knows, MayRefuse};
 ghost use Rattle.pm_read_expiry.specs.Reader.{next_call, Shown};
 ghost use Rattle.pm_read_expiry.specs.declared.phase.Phase.{Phase};
 
@@ -23,12 +22,12 @@ pub fn known_law()
     pm_model_expiry::known_law();
 }
 
-/// Whatever others do between its calls, a folder that stands shows a reader no refusal but that memory ran out, or that
-/// a snapshot which was listed has gone. So E10 and E11 never come of such a folder.
+/// Whatever others do between its calls, a folder that stands shows a reader no refusal but that memory ran out, or
+/// that a snapshot which was listed has gone. So E9 to E12 never come of such a folder.
 pub fn causes_law()
     ensures { (m : Phase) (call : Call) (answer : Answer) (refusal : Refusal) (f : Files) (p : Past) → Stands f p
         → Knows m f p → next_call m ≡ Some call → Answers call answer f → Shown m answer refusal
-        → IsTold refusal f p }
+        → MayRefuse f p refusal }
 {}
 
 /// Whatever a crash leaves of its next call has the same content at each path.

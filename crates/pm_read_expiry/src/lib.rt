@@ -7,8 +7,8 @@
 //!
 //! `specs/Times.antt` says which snapshots count, and which is the least number that consumers read next;
 //! `specs/Found.antt` what is asked for and found; `specs/Reader.antt` has the phases, the calls and what each answer
-//! leads to; `specs/Meaning.antt` what it knows of the table in each phase, whatever others do; `specs/Trace.antt`
-//! which calls it made, and which show a refusal.
+//! leads to; `specs/Meaning.antt` what it knows of the table in each phase, whatever others do, and what its refusals
+//! tell; `specs/Trace.antt` which calls it made, and which show a refusal.
 #![tactic(auto)]
 
 mod after;

@@ -1,8 +1,7 @@
 //! The phases of a reader of what an expiry needs to know, and what they mean.
 
 ghost use Rattle.pm_model_folder.specs.Ledger as ledgers;
-ghost use Rattle.pm_read_schema.specs.Beside.{IsTold};
-ghost use Rattle.pm_read_expiry.specs.Meaning.{Knows};
+ghost use Rattle.pm_read_expiry.specs.Meaning.{IsTold, Knows};
 ghost use Rattle.pm_read_expiry.specs.Reader.{calls_left, next_call, Goes, IsReader, IsReady, Shown};
 ghost use Rattle.pm_read_expiry.specs.Trace.{Did, Shows};
 ghost use Rattle.pm_read_expiry.specs.declared.asking.Asking as asked;

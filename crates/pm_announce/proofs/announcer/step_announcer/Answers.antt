@@ -26,7 +26,7 @@ pub make_step-requires-clause-goes : goal.make_step-requires-clause-goes
 make_step-requires-clause-goes g c = λ m answer new is. goes m answer new
 
 pub make_step-requires-clause-has_call : goal.make_step-requires-clause-has_call
-make_step-requires-clause-has_call g c = λ m is. has_call m
+make_step-requires-clause-has_call g c = has_call
 
 pub returns-clause-moves : goal.returns-clause-moves
 returns-clause-moves g c =
