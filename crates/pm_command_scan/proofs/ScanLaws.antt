@@ -9,7 +9,7 @@ use Rattle.pm_values.specs.declared.refusal.Refusal.TheVariants as refusals
 use Rattle.pm_io.specs.Sink.{SinkView, TookPrefix}
 use Rattle.pm_store.specs.Files.{Files}
 use Rattle.pm_store.specs.Store.{StoreView, at_first_own}
-use Rattle.pm_machine.specs.Trace.{HasTrace}
+use Rattle.pm_machine.specs.Trace.{Event, HasTrace}
 use Rattle.pm_machine.proofs.Facts.{Traces-join}
 use Rattle.pm_model_history.specs.History.{History, IsTableOf, no_table, table}
 use Rattle.pm_schema.specs.declared.schema.TableSchema.{TableSchema}
@@ -20,14 +20,13 @@ use Rattle.pm_read_schema.specs.Beside.{AnyPast, IsTold, Learns}
 use Rattle.pm_read_schema.proofs.BesideFacts.{learns-then}
 use Rattle.pm_draft.specs.Built.{IsBuilt, unbuilt}
 use Rattle.pm_scan.specs.AllCalls as scanner
-use Rattle.pm_scan.specs.AllCalls.{id_of, path_of, text_in, PrintsScan}
+use Rattle.pm_scan.specs.AllCalls.{id_of, path_of, text_in, NamesAsked, PrintsScan}
 use Rattle.pm_scan.specs.Beside.{ScansBeside, TellsBeside}
 use Rattle.pm_scan.specs.Meaning.{IsScan}
 use Rattle.pm_command.specs.Outside.{Outside, Prints}
 use Rattle.pm_command.specs.Table as tables
-use Rattle.pm_command.specs.Table.{EndsAtSchema}
 use Rattle.pm_command_scan.specs.Scan.{DidScan, text_of, Scans, MayRefuse, IsThere, PrintsTable, PrintsPrefix, AnswersHistory, ScansTables, MadeBeside, MakesText, Keeps, KeepsHistories, IsScanned}
-use Rattle.pm_command.proofs.TableLemmas.{trace_weaker, files_of, leaves_of, rests_of, images_rest, caused, judged_caused}
+use Rattle.pm_command.proofs.TableLemmas.{IsText, trace_weaker, files_of, leaves_of, rests_of, images_rest, caused, judged_caused, judged_told, read_told, unbuilt_is_text}
 
 -- ---- its calls
 
@@ -46,19 +45,37 @@ scanned_trace at s (Err e) before after built = trace_weaker (scanner.DidScan s 
 
 -- ---- what they make known
 
--- where the schema isn't built
+-- where no schema is read, no snapshot is named
+read_names : (at : Option ℕ) (e : Refusal) (own : List Event) → DidRead (Err e) own → NamesAsked at e
+read_names at (refusals.NoSnapshot id latest) own shows = absurd shows
+read_names at (refusals.Expired id) own shows = absurd shows
+read_names at e own shows = tt
+
+pub read_beside : (at : Option ℕ) (e : Refusal) (before after : StoreView) → HasTrace (DidRead (Err e)) before after → Learns AnyPast (IsTold e) before after
+    → MadeBeside at (Err e) before after
+read_beside at e before after (own, shows, trace) told = (read_names at e own shows, read_told AnyPast e before after told)
+
+-- nor where it isn't built
+text_names : (at : Option ℕ) (e : Refusal) → IsText e → NamesAsked at e
+text_names at (refusals.Unsupported what text) is = tt
+text_names at other is = absurd is
+
+judge_names : (at : Option ℕ) (s : TableSchema) (e : Refusal) → (e ≡ refusals.Memory) ⊎ (unbuilt s ≡ Some e) → NamesAsked at e
+judge_names at s e (inl memory) = subst (NamesAsked at) (sym memory) tt
+judge_names at s e (inr why) = text_names at e (unbuilt_is_text s e why)
+
 pub judged_beside : (at : Option ℕ) (s : TableSchema) (e : Refusal) (before after : StoreView) → (e ≡ refusals.Memory) ⊎ (unbuilt s ≡ Some e)
-    → HasTrace (DidRead (Ok s)) before after → MadeBeside at (Err e) before after
-judged_beside at s e before after why read = inl (trace_weaker (DidRead (Ok s)) (EndsAtSchema e) (λ own has. (s, why, has)) before after read)
+    → Learns AnyPast (λ f p. IsTableOf s p.history) before after → MadeBeside at (Err e) before after
+judged_beside at s e before after why learned = (judge_names at s e why, judged_told s e before after why learned)
 
 -- calls that read the schema, and those of a scan after them
 pub scanned_beside : (at : Option ℕ) (s : TableSchema) (made : Result (Vec ℕ Global) Refusal) (before middle after : StoreView)
     → HasTrace (DidRead (Ok s)) before middle → Learns AnyPast (λ f p. IsTableOf s p.history) before middle
     → IfOk made (λ text. ScansBeside s at text.items middle after) → IfErr made (λ refusal. TellsBeside s refusal middle after)
-    → MadeBeside at (text_in made) before after
-scanned_beside at s (Err e) before middle after read learned scans told =
-    inr (learns-then AnyPast (λ f p. IsTableOf s p.history) (IsTold e) before middle after learned told)
-scanned_beside at s (Ok text) before middle after (earlier, did, first) learned (id, (later, has, then_came), knows) told = (
+    → IfErr made (NamesAsked at) → MadeBeside at (text_in made) before after
+scanned_beside at s (Err e) before middle after read learned scans told names =
+    (names, read_told AnyPast e before after (learns-then AnyPast (λ f p. IsTableOf s p.history) (IsTold e) before middle after learned told))
+scanned_beside at s (Ok text) before middle after (earlier, did, first) learned (id, (later, has, then_came), knows) told names = (
   s,
   id,
   (earlier ++ later, (earlier, later, did, has, refl), Traces-join earlier later before middle after first then_came),

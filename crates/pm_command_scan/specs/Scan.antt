@@ -14,17 +14,17 @@ use Rattle.pm_schema.specs.declared.schema.TableSchema.{TableSchema}
 use Rattle.pm_model_folder.specs.Folder.{Folder}
 use Rattle.pm_model_folder.specs.Ledger.{count_of}
 use Rattle.pm_create.specs.Making.{LeavesFiles}
-use Rattle.pm_read_schema.specs.Beside.{AnyPast, IsTold, Learns}
+use Rattle.pm_read_schema.specs.Beside.{AnyPast, Learns}
 use Rattle.pm_read_schema.specs.Trace as reader
 use Rattle.pm_draft.specs.Built.{IsBuilt}
 use Rattle.pm_scan.specs.AllCalls as scanner
-use Rattle.pm_scan.specs.AllCalls.{id_of, path_of, PrintsScan}
+use Rattle.pm_scan.specs.AllCalls.{id_of, path_of, NamesAsked, PrintsScan}
 use Rattle.pm_scan.specs.Asked.{asked_at}
 use Rattle.pm_scan.specs.Meaning.{IsScan}
 use Rattle.pm_scan.specs.Trace.{HasScan}
 use Rattle.pm_command.specs.Outside.{ImagesRest, Outside, Prints, Rests}
 use Rattle.pm_command.specs.Table as tables
-use Rattle.pm_command.specs.Table.{EndsAtSchema}
+use Rattle.pm_command.specs.Table.{EndsAtSchema, LearnsRefusal}
 
 -- they go on from the schema, which is built, and are those of a scan with this answer
 abbrev pub GoesOnAs : Option ℕ → Result (List ℕ) Refusal → List Event → Type 0
@@ -44,13 +44,13 @@ HasRead s at id text own =
 
 -- Whatever others do before, between and after its calls, the text is the scan of the table at the snapshot that these
 -- read: of each history that the files stand for, once others changed them by the kinds of change alone. A refusal
--- comes where the calls end with the schema, of a table that isn't built; or it tells what is so at the call that shows
--- it: that there is no table, that the snapshot has gone, or that it is above one that the table has or had. No file is
--- called damaged.
+-- tells what is so at the call that shows it: that there is no table, or none that is built; that the snapshot has
+-- gone; or that it is above the latest. And the snapshot is the one that is asked for, if one is. No file is called
+-- damaged.
 abbrev pub MadeBeside : Option ℕ → Result (List ℕ) Refusal → StoreView → StoreView → Type 0
 MadeBeside at (Ok text) before after = (s : TableSchema) × (id : ℕ) × HasTrace (HasRead s at id text) before after
     × Learns AnyPast (λ f p. IsScan p id text) before after
-MadeBeside at (Err e) before after = HasTrace (EndsAtSchema e) before after ⊎ Learns AnyPast (IsTold e) before after
+MadeBeside at (Err e) before after = NamesAsked at e × LearnsRefusal e before after
 
 -- the text of what it made
 abbrev pub text_of : Result (List ℕ) Refusal → List ℕ

@@ -1,14 +1,14 @@
-use Rattle.std.proofs.Common.{inr}
 use Rattle.std.proofs.lemmas.Result.{err_from_is_err_and}
 use Rattle.pm_scan.specs.AllCalls.{text_in}
-use Rattle.pm_command_scan.proofs.ScanLaws.{judge_refused, judged_beside, scanned_beside, scanned_trace, read_keeps, judge_keeps, scanned_keeps}
+use Rattle.pm_command_scan.proofs.ScanLaws.{judge_refused, judged_beside, read_beside, scanned_beside, scanned_trace, read_keeps, judge_keeps, scanned_keeps}
 use Rattle.pm_command_scan.proofs.scan.scan_built.Goals as goal
 
 pub returns-in_err-schema-clause-beside : goal.returns-in_err-schema-clause-beside
 returns-in_err-schema-clause-beside g c =
     let p = err_from_is_err_and c.from_residual.result c.from_residual.ensures.1 in
     rw (p.1, p.2)
-    (inr c.in_err-schema.ensures.refused)
+    (read_beside c.args.snapshot c.in_err-schema.field-0.0 (g.F.FileStore.seen c.args.store.now)
+    (g.F.FileStore.seen c.read_table_schema.new.store) c.in_err-schema.ensures.trace c.in_err-schema.ensures.refused)
 
 pub returns-in_err-schema-clause-history : goal.returns-in_err-schema-clause-history
 returns-in_err-schema-clause-history g c =
@@ -29,7 +29,7 @@ returns-in_err-judge-clause-beside g c =
     let p = err_from_is_err_and c.from_residual-in_err-judge.result c.from_residual-in_err-judge.ensures.1 in
     rw (p.1, p.2)
     (judged_beside c.args.snapshot c.in_ok-schema.schema c.in_err-judge.field-0.0 (g.F.FileStore.seen c.args.store.now)
-    (g.F.FileStore.seen c.read_table_schema.new.store) c.in_err-judge.ensures.unbuilt c.in_ok-schema.ensures.trace)
+    (g.F.FileStore.seen c.read_table_schema.new.store) c.in_err-judge.ensures.unbuilt c.in_ok-schema.ensures.beside)
 
 pub returns-in_err-judge-clause-history : goal.returns-in_err-judge-clause-history
 returns-in_err-judge-clause-history g c =
@@ -42,7 +42,7 @@ pub returns-clause-beside : goal.returns-clause-beside
 returns-clause-beside g c =
     scanned_beside c.args.snapshot c.in_ok-schema.schema c.scan_table.result (g.F.FileStore.seen c.args.store.now)
     (g.F.FileStore.seen c.read_table_schema.new.store) (g.F.FileStore.seen c.scan_table.new.store) c.in_ok-schema.ensures.trace
-    c.in_ok-schema.ensures.beside c.scan_table.ensures.beside c.scan_table.ensures.refused
+    c.in_ok-schema.ensures.beside c.scan_table.ensures.beside c.scan_table.ensures.refused c.scan_table.ensures.named
 
 pub returns-clause-trace : goal.returns-clause-trace
 returns-clause-trace g c =
