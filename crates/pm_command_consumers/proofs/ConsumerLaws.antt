@@ -13,16 +13,16 @@ use Rattle.pm_schema.specs.declared.schema.TableSchema.{TableSchema}
 use Rattle.pm_model_folder.specs.Folder.{Folder}
 use Rattle.pm_consumer_files.specs.declared.lines.NamedConsumer.{NamedConsumer}
 use Rattle.pm_read_schema.specs.AllCalls.{DidRead, HasFiles, ReadsTables, Stay}
-use Rattle.pm_read_schema.specs.Beside.{AnyPast, Learns}
+use Rattle.pm_read_schema.specs.Beside.{AnyPast, IsTold, Learns}
 use Rattle.pm_read_schema.proofs.BesideFacts.{learns-then, learns-weaker}
 use Rattle.pm_read_latest.specs.AllCalls.{IsCaused}
 use Rattle.pm_draft.specs.Built.{IsBuilt, unbuilt}
 use Rattle.pm_consumers.specs.AllCalls as lister
 use Rattle.pm_consumers.specs.AllCalls.{AreConsumersOf, DidList, Listing}
 use Rattle.pm_command.specs.Outside.{Outside, Prints}
-use Rattle.pm_command.specs.Table.{MayRefuse}
-use Rattle.pm_command.proofs.TableLemmas.{trace_weaker, files_of, leaves_of, rests_of, images_rest, caused, judged_caused}
-use Rattle.pm_command_consumers.specs.Consumers.{AfterSchema, AnswersHistory, DidConsumers, IsListed, Keeps, KeepsHistories, ListsConsumers, ListsTables, MadeBeside, MakesLines, ShowsListing, ShowsSchema, text_of}
+use Rattle.pm_command.specs.Table.{IsToldOfTable, MayRefuse}
+use Rattle.pm_command.proofs.TableLemmas.{trace_weaker, files_of, leaves_of, rests_of, images_rest, caused, judged_caused, judged_told, read_told}
+use Rattle.pm_command_consumers.specs.Consumers.{AfterSchema, AnswersHistory, DidConsumers, IsListed, Keeps, KeepsHistories, ListsConsumers, ListsTables, MadeBeside, MakesLines, ShowsListing, text_of}
 use Rattle.pm_command_consumers.proofs.JoinLemmas.{after_schema, read_then, rose_wider, stay_join}
 
 -- ---- its calls
@@ -55,23 +55,28 @@ memory_trace consumers before after =
 
 -- ---- what they show, whatever others do
 
-pub read_beside : (e : Refusal) (before after : StoreView) → HasTrace (DidRead (Err e)) before after → MadeBeside (Err e) before after
-read_beside (refusals.Damaged path place) before after did =
-    inl (trace_weaker (DidRead (Err (refusals.Damaged path place))) (ShowsSchema (refusals.Damaged path place)) (λ own shows. inl shows) before after did)
-read_beside e before after did = tt
+pub read_beside : (e : Refusal) (before after : StoreView) → Learns AnyPast (IsTold e) before after → MadeBeside (Err e) before after
+read_beside e before after = read_told AnyPast e before after
 
 pub judge_beside : (s : TableSchema) (e : Refusal) (before after : StoreView) → (e ≡ refusals.Memory) ⊎ (unbuilt s ≡ Some e)
-    → HasTrace (DidRead (Ok s)) before after → MadeBeside (Err e) before after
-judge_beside s (refusals.Damaged path place) before after why did =
-    inl (trace_weaker (DidRead (Ok s)) (ShowsSchema (refusals.Damaged path place)) (λ own has. inr (s, why, has)) before after did)
-judge_beside s e before after why did = tt
+    → Learns AnyPast (λ f p. IsTableOf s p.history) before after → MadeBeside (Err e) before after
+judge_beside s e before after = judged_told s e before after
+
+-- of the schema's table no more is asked than that a history stands
+stood : (s : TableSchema) (before after : StoreView) → Learns AnyPast (λ f p. IsTableOf s p.history) before after → Learns AnyPast AnyPast before after
+stood s before after = learns-weaker AnyPast AnyPast (λ f p. IsTableOf s p.history) AnyPast before after (λ f p known. known) (λ f p stands of. tt)
 
 pub listed_beside : (s : TableSchema) (result : Listing) (before middle after : StoreView) → Learns AnyPast (λ f p. IsTableOf s p.history) before middle
     → lister.ListsBeside middle after result → MadeBeside result before after
-listed_beside s (Err (refusals.Damaged path place)) before middle after learned none =
-    inr (learns-then AnyPast AnyPast (λ f p. ⊥) before middle after
-    (learns-weaker AnyPast AnyPast (λ f p. IsTableOf s p.history) AnyPast before middle (λ f p is. is) (λ f p stands is. tt) learned) none)
-listed_beside s result before middle after learned beside = tt
+listed_beside s (Ok consumers) before middle after learned beside =
+    learns-then AnyPast AnyPast AnyPast before middle after (stood s before middle learned) beside
+listed_beside s (Err e) before middle after learned told =
+    read_told AnyPast e before after (learns-then AnyPast AnyPast (IsTold e) before middle after (stood s before middle learned) told)
+
+-- where memory runs out for the text
+memory_beside : (consumers : Vec NamedConsumer Global) (before after : StoreView) → MadeBeside (Ok consumers) before after → MadeBeside (Err refusals.Memory) before after
+memory_beside consumers before after =
+    learns-weaker AnyPast AnyPast AnyPast (IsToldOfTable refusals.Memory) before after (λ f p known. known) (λ f p stands known. tt)
 
 -- ---- files that stay
 
@@ -139,15 +144,16 @@ pub refused_listed : (e : Refusal) (out : SinkView) (store after : StoreView) �
 refused_listed e out store after trace beside kept = (Err e, trace, beside, kept, (refl, refl))
 
 pub memory_listed : (consumers : Vec NamedConsumer Global) (out : SinkView) (store after : StoreView) → HasTrace (DidConsumers (Ok consumers)) store after
-    → KeepsHistories store after (Ok consumers) → IsListed out out store after (Some refusals.Memory)
-memory_listed consumers out store after trace kept =
-    refused_listed refusals.Memory out store after (memory_trace consumers store after trace) tt (memory_keeps (Ok consumers) store after kept)
+    → MadeBeside (Ok consumers) store after → KeepsHistories store after (Ok consumers) → IsListed out out store after (Some refusals.Memory)
+memory_listed consumers out store after trace beside kept =
+    refused_listed refusals.Memory out store after (memory_trace consumers store after trace) (memory_beside consumers store after beside)
+    (memory_keeps (Ok consumers) store after kept)
 
 pub printed_listed : (consumers : Vec NamedConsumer Global) (text : List ℕ) (out out_after : SinkView) (store after : StoreView) (answer : Option Refusal)
-    → text ≡ text_of (Ok consumers) → HasTrace (DidConsumers (Ok consumers)) store after → KeepsHistories store after (Ok consumers)
-    → Prints text None None out out_after answer → IsListed out out_after store after answer
-printed_listed consumers text out out_after store after answer is trace kept prints =
-    (Ok consumers, trace, tt, kept, subst (λ (text : List ℕ). Prints text None None out out_after answer) is prints)
+    → text ≡ text_of (Ok consumers) → HasTrace (DidConsumers (Ok consumers)) store after → MadeBeside (Ok consumers) store after
+    → KeepsHistories store after (Ok consumers) → Prints text None None out out_after answer → IsListed out out_after store after answer
+printed_listed consumers text out out_after store after answer is trace beside kept prints =
+    (Ok consumers, trace, beside, kept, subst (λ (text : List ℕ). Prints text None None out out_after answer) is prints)
 
 pub listed_answers : (before after : Outside) (answer : Option Refusal) → IsListed before.out after.out before.store after.store answer → ListsConsumers before after answer
 listed_answers before after answer (made, trace, beside, kept, prints) = (made, trace, beside, prints)

@@ -19,7 +19,7 @@ use Rattle.pm_model_folder.specs.Folder.{Folder, HaveSettled}
 use Rattle.pm_model_folder.specs.Paths.{consumer_path}
 use Rattle.pm_create.specs.Making.{LeavesFiles}
 use Rattle.pm_read_schema.specs.AllCalls.{DidRead, HasFiles, ReadsTables, Stay}
-use Rattle.pm_read_schema.specs.Beside.{AnyPast, Learns}
+use Rattle.pm_read_schema.specs.Beside.{AnyPast, IsTold, Learns}
 use Rattle.pm_read_schema.proofs.BesideFacts.{learns-weaker}
 use Rattle.pm_move_consumer.specs.DropperAllCalls as dropper
 use Rattle.pm_move_consumer.specs.DropperAllCalls.{AreOthersOf, DidDrop, DropsName, DropsOn, ItGoes, ItLeaves, ItRests}
@@ -29,8 +29,8 @@ use Rattle.pm_move_consumer.specs.MoverMeaning.{HasPlainTable}
 use Rattle.pm_draft.specs.Built.{IsBuilt, unbuilt}
 use Rattle.pm_command.specs.Outside.{Outside, Prints}
 use Rattle.pm_command.specs.Table.{MayRefuse}
-use Rattle.pm_command.proofs.TableLemmas.{trace_weaker, files_of, leaves_of, leaves_weaker, caused, judged_caused}
-use Rattle.pm_command_consumers.specs.Consumers.{AfterSchema, ShowsSchema}
+use Rattle.pm_command.proofs.TableLemmas.{trace_weaker, files_of, leaves_of, leaves_weaker, caused, judged_caused, judged_told, read_told}
+use Rattle.pm_command_consumers.specs.Consumers.{AfterSchema}
 use Rattle.pm_command_consumers.specs.Drop.{AnswersHistory, DidRemove, Drops, DropsTables, EndsBy, IsRemoved, ItEnds, Keeps, KeepsHistories, MadeBeside, MakesOf, StandsWithout, WasThere, text_of}
 use Rattle.pm_command_consumers.proofs.JoinLemmas.{after_schema, read_then, rose_wider}
 
@@ -56,12 +56,12 @@ removed_trace name s (Err e) before middle after built has did =
 plain_names : (s : TableSchema) → IsBuilt s → HavePlainNames s
 plain_names s built = subst (AllByRecursion IsPlain) (sym built.partition) tt
 
-pub read_beside : (name : List ℕ) (e : Refusal) (before after : StoreView) → HasTrace (DidRead (Err e)) before after → MadeBeside name (Err e) before after
-read_beside name e before after did = inl (trace_weaker (DidRead (Err e)) (ShowsSchema e) (λ own shows. inl shows) before after did)
+pub read_beside : (name : List ℕ) (e : Refusal) (before after : StoreView) → Learns AnyPast (IsTold e) before after → MadeBeside name (Err e) before after
+read_beside name e before after told = inl (read_told AnyPast e before after told)
 
 pub judge_beside : (name : List ℕ) (s : TableSchema) (e : Refusal) (before after : StoreView) → (e ≡ refusals.Memory) ⊎ (unbuilt s ≡ Some e)
-    → HasTrace (DidRead (Ok s)) before after → MadeBeside name (Err e) before after
-judge_beside name s e before after why did = inl (trace_weaker (DidRead (Ok s)) (ShowsSchema e) (λ own has. inr (s, why, has)) before after did)
+    → Learns AnyPast (λ f p. IsTableOf s p.history) before after → MadeBeside name (Err e) before after
+judge_beside name s e before after why learned = inl (judged_told s e before after why learned)
 
 learned_plain : (s : TableSchema) (before middle : StoreView) → IsBuilt s → Learns AnyPast (λ f p. IsTableOf s p.history) before middle
     → Learns AnyPast (λ f p. HasPlainTable p.history) before middle

@@ -13,15 +13,15 @@ use Rattle.pm_model_folder.specs.Folder.{Folder}
 use Rattle.pm_consumer_files.specs.Lines.{consumers_text}
 use Rattle.pm_consumer_files.specs.declared.lines.NamedConsumer.{NamedConsumer}
 use Rattle.pm_create.specs.Making.{LeavesFiles}
+use Rattle.pm_read_schema.specs.Beside.{AnyPast, Learns}
 use Rattle.pm_read_schema.specs.Trace as reader
 use Rattle.pm_read_schema.specs.declared.phase.Phase.TheVariants as readers
-use Rattle.pm_read_consumer.specs.AllCalls.{NoneStood}
 use Rattle.pm_consumers.specs.AllCalls.{AreConsumersOf, Listing}
 use Rattle.pm_consumers.specs.Trace as lister
 use Rattle.pm_consumers.specs.Trace.{HasListed}
 use Rattle.pm_draft.specs.Built.{IsBuilt}
 use Rattle.pm_command.specs.Outside.{ImagesRest, Outside, Prints, Rests}
-use Rattle.pm_command.specs.Table.{EndsAtSchema, MayRefuse}
+use Rattle.pm_command.specs.Table.{EndsAtSchema, LearnsRefusal, MayRefuse}
 
 -- ---- its calls
 
@@ -45,12 +45,12 @@ abbrev pub DidConsumers : Listing → List Event → Type 0
 DidConsumers (Ok consumers) own = AfterSchema (HasListed consumers.items) own
 DidConsumers (Err e) own = ShowsSchema e own ⊎ AfterSchema (ShowsListing e) own
 
--- Whatever others do before, between and after its calls: where a file is damaged, that of the schema is, or no table
--- stood that others changed by the kinds of change alone.
+-- Whatever others do before, between and after its calls, a refusal tells what is so at the call that shows it: that
+-- there is no table, or none that is built. No file is called damaged. Of the consumers that are listed no more is
+-- known than that a history stands.
 abbrev pub MadeBeside : Listing → StoreView → StoreView → Type 0
-MadeBeside (Err (refusals.Damaged path place)) before after =
-    HasTrace (ShowsSchema (refusals.Damaged path place)) before after ⊎ NoneStood before after
-MadeBeside made before after = Unit {0}
+MadeBeside (Ok consumers) before after = Learns AnyPast AnyPast before after
+MadeBeside (Err e) before after = LearnsRefusal e before after
 
 -- the text of what it made
 abbrev pub text_of : Listing → List ℕ

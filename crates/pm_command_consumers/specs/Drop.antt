@@ -24,7 +24,7 @@ use Rattle.pm_move_consumer.specs.DropperTrace as dropper
 use Rattle.pm_move_consumer.specs.MoverAllCalls.{OthersRest}
 use Rattle.pm_move_consumer.specs.MoverMeaning.{HasPlainTable}
 use Rattle.pm_command.specs.Outside.{Outside, Prints}
-use Rattle.pm_command.specs.Table.{MayRefuse}
+use Rattle.pm_command.specs.Table.{LearnsRefusal, MayRefuse}
 use Rattle.pm_command_consumers.specs.Consumers.{AfterSchema, ShowsSchema}
 
 -- ---- its calls
@@ -41,10 +41,10 @@ RemovesBeside name made before after = (middle : StoreView)
     × Learns AnyPast (λ f p. HasPlainTable p.history) before middle
     × ((me : Actor) → DropsOn (drop_by me name) made middle after)
 
--- or the schema is refused
+-- or the schema is refused, and what that tells is so at the call that shows it
 abbrev pub MadeBeside : List ℕ → Result Bool Refusal → StoreView → StoreView → Type 0
 MadeBeside name (Ok was_there) before after = RemovesBeside name (Ok was_there) before after
-MadeBeside name (Err e) before after = HasTrace (ShowsSchema e) before after ⊎ RemovesBeside name (Err e) before after
+MadeBeside name (Err e) before after = LearnsRefusal e before after ⊎ RemovesBeside name (Err e) before after
 
 -- what is told: whether a file was there
 abbrev pub told_text : Bool → List ℕ

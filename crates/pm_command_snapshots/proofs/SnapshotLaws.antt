@@ -22,8 +22,8 @@ use Rattle.pm_snapshots.specs.Trace.{HasListed}
 use Rattle.pm_snapshots.specs.declared.line.SnapshotLine.{SnapshotLine}
 use Rattle.pm_snapshots.specs.declared.phase.Phase.{Phase}
 use Rattle.pm_command.specs.Outside.{Outside, Prints}
-use Rattle.pm_command.specs.Table.{EndsAtSchema, MayRefuse}
-use Rattle.pm_command.proofs.TableLemmas.{trace_weaker, files_of, leaves_of, rests_of, images_rest, caused, judged_caused}
+use Rattle.pm_command.specs.Table.{IsToldOfTable, MayRefuse}
+use Rattle.pm_command.proofs.TableLemmas.{trace_weaker, files_of, leaves_of, rests_of, images_rest, caused, judged_caused, judged_told, read_told}
 use Rattle.pm_command_snapshots.specs.Snapshots.{DidSnapshots, text_of, ListsSnapshots, AnswersHistory, ListsTables, MadeBeside, made_of, MakesLines, Keeps, KeepsHistories, IsListed}
 
 -- ---- its calls
@@ -64,22 +64,22 @@ pub listed_known : (s : TableSchema) (result : Result Phase Refusal) (before mid
     → Learns AnyPast (λ f p. IsTableOf s p.history) before middle → IfOk result (λ m. ListsBeside s (lines_of m) middle after)
     → IfErr result (λ e. Learns (λ f p. IsTableOf s p.history) (IsTold e) middle after) → MadeBeside (made_of result) before after
 listed_known s (Err e) before middle after did learned lists refused =
-    inr (learns-then AnyPast (λ f p. IsTableOf s p.history) (IsTold e) before middle after learned refused)
+    read_told AnyPast e before after (learns-then AnyPast (λ f p. IsTableOf s p.history) (IsTold e) before middle after learned refused)
 listed_known s (Ok m) before middle after did learned lists refused =
     (s, did, learns-then AnyPast (λ f p. IsTableOf s p.history) (λ f p. AreLinesIn s (lines_of m) p) before middle after learned lists)
 
 -- or those that read no schema, or end with one that isn't built
-pub read_told : (e : Refusal) (before after : StoreView) → Learns AnyPast (IsTold e) before after → MadeBeside (made_of (Err e)) before after
-read_told e before after told = inr told
+pub read_known : (e : Refusal) (before after : StoreView) → Learns AnyPast (IsTold e) before after → MadeBeside (made_of (Err e)) before after
+read_known e before after = read_told AnyPast e before after
 
 pub judge_known : (s : TableSchema) (e : Refusal) (before after : StoreView) → (e ≡ refusals.Memory) ⊎ (unbuilt s ≡ Some e)
-    → HasTrace (DidRead (Ok s)) before after → MadeBeside (made_of (Err e)) before after
-judge_known s e before after why did = inl (trace_weaker (DidRead (Ok s)) (EndsAtSchema e) (λ own has. (s, why, has)) before after did)
+    → Learns AnyPast (λ f p. IsTableOf s p.history) before after → MadeBeside (made_of (Err e)) before after
+judge_known s e before after = judged_told s e before after
 
 -- where memory runs out for the text that is told of what the lines are
 memory_known : (lines : List SnapshotLine) (before after : StoreView) → MadeBeside (Ok lines) before after → MadeBeside (Err refusals.Memory) before after
 memory_known lines before after (s, trace, learned) =
-    inr (learns-weaker AnyPast AnyPast (λ f p. AreLinesIn s lines p) (IsTold refusals.Memory) before after (λ f p known. known) (λ f p stands known. tt) learned)
+    learns-weaker AnyPast AnyPast (λ f p. AreLinesIn s lines p) (IsToldOfTable refusals.Memory) before after (λ f p known. known) (λ f p stands known. tt) learned
 
 -- ---- files that stay
 

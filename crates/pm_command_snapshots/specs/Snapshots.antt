@@ -11,7 +11,7 @@ use Rattle.pm_model_history.specs.History.{History, no_table}
 use Rattle.pm_schema.specs.declared.schema.TableSchema.{TableSchema}
 use Rattle.pm_model_folder.specs.Folder.{Folder}
 use Rattle.pm_create.specs.Making.{LeavesFiles}
-use Rattle.pm_read_schema.specs.Beside.{AnyPast, IsTold, Learns}
+use Rattle.pm_read_schema.specs.Beside.{AnyPast, Learns}
 use Rattle.pm_read_schema.specs.Trace as reader
 use Rattle.pm_draft.specs.Built.{IsBuilt}
 use Rattle.pm_snapshots.specs.AllCalls.{AreLinesIn, AreLinesOf, GoesOnFrom}
@@ -21,7 +21,7 @@ use Rattle.pm_snapshots.specs.Trace.{HasListed, Shows}
 use Rattle.pm_snapshots.specs.declared.line.SnapshotLine.{SnapshotLine}
 use Rattle.pm_snapshots.specs.declared.phase.Phase.{Phase}
 use Rattle.pm_command.specs.Outside.{ImagesRest, Outside, Prints, Rests}
-use Rattle.pm_command.specs.Table.{EndsAtSchema, MayRefuse}
+use Rattle.pm_command.specs.Table.{EndsAtSchema, LearnsRefusal, MayRefuse}
 
 -- they go on from the schema, which is built, and show a refusal of what follows
 abbrev pub EndsLater : Refusal → List Event → Type 0
@@ -35,11 +35,12 @@ DidSnapshots (Err e) own = reader.Shows e own ⊎ (EndsAtSchema e own ⊎ EndsLa
 
 -- Whatever others do before, between and after its calls, the lines are those of the table's snapshots that these
 -- listed, each as it stood when it was committed: in each history that the files stand for, once others changed them by
--- the kinds of change alone. And a refusal is that of a schema which isn't built, or tells what is so.
+-- the kinds of change alone. And a refusal tells what is so at the call that shows it: that there is no table, or none
+-- that is built; or that a snapshot has gone. No file is called damaged.
 abbrev pub MadeBeside : Result (List SnapshotLine) Refusal → StoreView → StoreView → Type 0
 MadeBeside (Ok lines) before after = (s : TableSchema) × HasTrace (HasListed s lines) before after
     × Learns AnyPast (λ f p. AreLinesIn s lines p) before after
-MadeBeside (Err e) before after = HasTrace (EndsAtSchema e) before after ⊎ Learns AnyPast (IsTold e) before after
+MadeBeside (Err e) before after = LearnsRefusal e before after
 
 -- the text of what it made
 abbrev pub text_of : Result (List SnapshotLine) Refusal → List ℕ

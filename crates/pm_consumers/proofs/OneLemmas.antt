@@ -1,5 +1,5 @@
 -- The calls of a lister of consumers show one answer at most, but that memory may have run out.
-use Rattle.std.proofs.Common.{◌≡◌, ◌⊎◌, inl, inr, ℕ, ◌<◌, List, [], ◌∷◌, ◌++◌, codes, Option, Some, Ok, Err, refl, sym, ap, subst, ◌∙◌, arith}
+use Rattle.std.proofs.Common.{◌≡◌, ◌⊎◌, inl, inr, ℕ, List, [], ◌∷◌, ◌++◌, codes, Option, Some, Ok, Err, refl, sym, ap, subst, ◌∙◌}
 use Rattle.std.specs.List.{AllByRecursion}
 use Rattle.std.proofs.lemmas.List.{append_cancel_left}
 use Rattle.pm_base.proofs.Laws.{AllByRecursion-push}
@@ -16,11 +16,9 @@ use Rattle.pm_read_consumer.specs.Reader.{IsDamaged, Says}
 use Rattle.pm_read_consumer.specs.Trace.{read_consumer}
 use Rattle.pm_read_consumer.proofs.OneLemmas.{none_said, one_said, same_found}
 use Rattle.pm_consumers.specs.AllCalls.{DidList, IsSameListing, Listing}
-use Rattle.pm_consumers.specs.Lister.{calls_left, next_call}
+use Rattle.pm_consumers.specs.Lister.{next_call}
 use Rattle.pm_consumers.specs.Reading.{ReadingView}
-use Rattle.pm_consumers.specs.Trace.{listed_consumers, FileRead, AreSaid, consumers_of, named, reads_of, Meets, HasListed, DidSoFar, Shows, Did}
-use Rattle.pm_consumers.specs.declared.phase.Phase.{Phase}
-use Rattle.pm_consumers.specs.declared.phase.Phase.TheVariants as phases
+use Rattle.pm_consumers.specs.Trace.{listed_consumers, FileRead, AreSaid, consumers_of, named, reads_of, Meets, HasListed, DidSoFar, Shows}
 
 -- ---- what was read
 
@@ -93,14 +91,6 @@ read_not files reads r name bytes own all is (earlier, (others, again, are, name
     last_said reads (reads_of again) name bytes all
     (tail_same (listed_consumers files) (listed_consumers others) (reads_of reads) (reads_of again ++ read_consumer name (Some bytes) ∷ [])
     (sym is ∙ was ∙ ap (λ (own : List Event). own ++ read_consumer name (Some bytes) ∷ []) at)) bad
-
--- a lister that goes on met none
-pub none_damaged : (m : Phase) (path : List ℕ) (place : ℕ) (own : List Event) → 0 < calls_left m → Did m own → Shows (refusals.Damaged path place) own → ⊥
-none_damaged phases.List path place own left none (r, name, bytes, at, zero, bad, (earlier, has, next, is)) =
-    none_last earlier (read_consumer name (Some bytes)) (sym none ∙ is)
-none_damaged (phases.Read q) path place own left (files, reads, are, names, all, lines, is) (r, name, bytes, at, zero, bad, meets) =
-    read_not files reads r name bytes own all is meets bad
-none_damaged phases.Over path place own left did shows = let none : 0 < 0 = left in omega (arith, none)
 
 -- ---- what is shown
 

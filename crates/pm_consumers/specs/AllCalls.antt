@@ -8,7 +8,6 @@ use Rattle.std.specs.List.{AllByRecursion}
 use Rattle.std.specs.List.Sorted.{IsStrictlySortedBy}
 use Rattle.std.specs.Ordering.{nat_cmp}
 use Rattle.pm_values.specs.declared.refusal.Refusal.{Refusal}
-use Rattle.pm_values.specs.declared.refusal.Refusal.TheVariants as refusals
 use Rattle.pm_store.specs.Files.{Files}
 use Rattle.pm_store.specs.Store.{StoreView, FromFirst}
 use Rattle.pm_machine.specs.Trace.{Event}
@@ -18,8 +17,8 @@ use Rattle.pm_model_folder.specs.Meaning.{ConsumerAt}
 use Rattle.pm_model_folder.specs.Paths.{consumer_path}
 use Rattle.pm_consumer_files.specs.declared.lines.NamedConsumer.{NamedConsumer}
 use Rattle.pm_read_schema.specs.AllCalls.{HasFiles, Stay}
+use Rattle.pm_read_schema.specs.Beside.{AnyPast, IsTold, Learns}
 use Rattle.pm_read_latest.specs.AllCalls.{IsCaused}
-use Rattle.pm_read_consumer.specs.AllCalls.{NoneStood}
 use Rattle.pm_consumers.specs.Trace.{HasListed, Shows}
 
 -- what a listing answers
@@ -57,8 +56,9 @@ ListsConsumers before after result =
     FromFirst (λ first after. (f : Files) (h : History) → HasFiles f first → Folder f h
     → ListsAll f first after result) before after
 
--- Whatever others do before, between and after the calls, a damaged file shows that no folder stood. What a consumer is
--- said to be is what its read was answered, and no more: anyone may write the file again.
+-- Whatever others do before, between and after the calls, what a refusal tells is so at the call that shows it: no file
+-- is damaged. What a consumer is said to be is what its read was answered, and no more: anyone may write the file
+-- again. So of those that are listed no more is known than that a history stands.
 abbrev pub ListsBeside : StoreView → StoreView → Listing → Type 0
-ListsBeside before after (Err (refusals.Damaged path place)) = NoneStood before after
-ListsBeside before after other = Unit {0}
+ListsBeside before after (Ok consumers) = Learns AnyPast AnyPast before after
+ListsBeside before after (Err refusal) = Learns AnyPast (IsTold refusal) before after

@@ -14,7 +14,7 @@ returns-in_err-schema-clause-beside g c =
     let p = err_from_is_err_and c.from_residual.result c.from_residual.ensures.1 in
     rw (p.1, p.2)
     (read_beside c.in_err-schema.field-0.0 (g.F.FileStore.seen c.args.store.now) (g.F.FileStore.seen c.read_table_schema.new.store)
-    c.in_err-schema.ensures.trace)
+    c.in_err-schema.ensures.refused)
 
 pub returns-in_err-schema-clause-history : goal.returns-in_err-schema-clause-history
 returns-in_err-schema-clause-history g c =
@@ -35,7 +35,7 @@ returns-in_err-judge-clause-beside g c =
     let p = err_from_is_err_and c.from_residual-in_err-judge.result c.from_residual-in_err-judge.ensures.1 in
     rw (p.1, p.2)
     (judge_beside c.in_ok-schema.schema c.in_err-judge.field-0.0 (g.F.FileStore.seen c.args.store.now)
-    (g.F.FileStore.seen c.read_table_schema.new.store) c.in_err-judge.ensures.unbuilt c.in_ok-schema.ensures.trace)
+    (g.F.FileStore.seen c.read_table_schema.new.store) c.in_err-judge.ensures.unbuilt c.in_ok-schema.ensures.beside)
 
 pub returns-in_err-judge-clause-history : goal.returns-in_err-judge-clause-history
 returns-in_err-judge-clause-history g c =

@@ -18,11 +18,11 @@ returns-in_err-text-clause-listed g c =
     let p = err_from_is_err_and c.from_residual-in_err-text.result c.from_residual-in_err-text.ensures.1 in
     rw (p.1, p.2)
     (memory_listed c.in_ok-consumers.consumers (g.W.Sink.seen c.args.out.now) (g.F.FileStore.seen c.args.store.now)
-    (g.F.FileStore.seen c.list_built.new.store) c.in_ok-consumers.ensures.trace c.in_ok-consumers.ensures.history)
+    (g.F.FileStore.seen c.list_built.new.store) c.in_ok-consumers.ensures.trace c.in_ok-consumers.ensures.beside c.in_ok-consumers.ensures.history)
 
 pub returns-clause-listed : goal.returns-clause-listed
 returns-clause-listed g c =
     printed_listed c.in_ok-consumers.consumers c.deref.result.now (g.W.Sink.seen c.args.out.now) (g.W.Sink.seen c.print.new.out)
     (g.F.FileStore.seen c.args.store.now) (g.F.FileStore.seen c.list_built.new.store) (result_err c.print.result)
-    (c.deref.ensures.value ∙ c.in_ok-text.ensures ∙ ap consumers_text c.as_slice.ensures.value) c.in_ok-consumers.ensures.trace c.in_ok-consumers.ensures.history
+    (c.deref.ensures.value ∙ c.in_ok-text.ensures ∙ ap consumers_text c.as_slice.ensures.value) c.in_ok-consumers.ensures.trace c.in_ok-consumers.ensures.beside c.in_ok-consumers.ensures.history
     c.print.ensures.prints

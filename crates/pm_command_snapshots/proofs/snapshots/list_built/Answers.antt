@@ -1,5 +1,5 @@
 use Rattle.std.proofs.lemmas.Result.{err_from_is_err_and}
-use Rattle.pm_command_snapshots.proofs.SnapshotLaws.{read_refused, read_told, judge_known, judge_refused, listed_known, listed_trace, read_keeps, judge_keeps, listed_keeps}
+use Rattle.pm_command_snapshots.proofs.SnapshotLaws.{read_refused, read_known, judge_known, judge_refused, listed_known, listed_trace, read_keeps, judge_keeps, listed_keeps}
 use Rattle.pm_command_snapshots.proofs.snapshots.list_built.Goals as goal
 
 pub returns-in_err-schema-clause-trace : goal.returns-in_err-schema-clause-trace
@@ -13,7 +13,7 @@ pub returns-in_err-schema-clause-beside : goal.returns-in_err-schema-clause-besi
 returns-in_err-schema-clause-beside g c =
     let p = err_from_is_err_and c.from_residual.result c.from_residual.ensures.1 in
     rw (p.1, p.2)
-    (read_told c.in_err-schema.field-0.0 (g.F.FileStore.seen c.args.store.now) (g.F.FileStore.seen c.read_table_schema.new.store)
+    (read_known c.in_err-schema.field-0.0 (g.F.FileStore.seen c.args.store.now) (g.F.FileStore.seen c.read_table_schema.new.store)
     c.in_err-schema.ensures.refused)
 
 pub returns-in_err-schema-clause-history : goal.returns-in_err-schema-clause-history
@@ -35,7 +35,7 @@ returns-in_err-judge-clause-beside g c =
     let p = err_from_is_err_and c.from_residual-in_err-judge.result c.from_residual-in_err-judge.ensures.1 in
     rw (p.1, p.2)
     (judge_known c.in_ok-schema.schema c.in_err-judge.field-0.0 (g.F.FileStore.seen c.args.store.now)
-    (g.F.FileStore.seen c.read_table_schema.new.store) c.in_err-judge.ensures.unbuilt c.in_ok-schema.ensures.trace)
+    (g.F.FileStore.seen c.read_table_schema.new.store) c.in_err-judge.ensures.unbuilt c.in_ok-schema.ensures.beside)
 
 pub returns-in_err-judge-clause-history : goal.returns-in_err-judge-clause-history
 returns-in_err-judge-clause-history g c =

@@ -1,7 +1,7 @@
 use Rattle.std.proofs.Common.{rules}
 use Rattle.pm_store.proofs.StepLaws.{IsLater-refl}
 use Rattle.pm_consumers.proofs.AllCallsLemmas.{begun, call_left, was_done, was_refused, went_further}
-use Rattle.pm_consumers.proofs.BesideLemmas.{first-learned, more-learned, refused-beside}
+use Rattle.pm_consumers.proofs.BesideLemmas.{first-learned, more-learned, refused-learned}
 use Rattle.pm_consumers.proofs.all_calls.make_calls.Goals as goal
 
 pub loop-alloc-init : goal.loop-alloc-init
@@ -35,8 +35,8 @@ returns-in-Err-clause-trace g c =
 pub returns-in-Err-clause-beside : goal.returns-in-Err-clause-beside
 returns-in-Err-clause-beside g c =
     let seen = g.F.FileStore.seen in
-    refused-beside c.past_law.ensures c.in-Err.refusal c.loop-alloc.lister c.take_step.new.reader (seen c.args.store.now) (seen c.loop-alloc.store)
-    (seen c.take_step.new.store) (search rules) c.loop-alloc.invariant.trace c.loop-alloc.invariant.learned (c.in-Err.ensures.acts tt)
+    refused-learned c.past_law.ensures c.in-Err.refusal (seen c.args.store.now) (seen c.loop-alloc.store) (seen c.take_step.new.store)
+    c.loop-alloc.invariant.learned c.in-Err.ensures.tells
 
 pub returns-clause-trace : goal.returns-clause-trace
 returns-clause-trace g c =
