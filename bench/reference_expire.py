@@ -30,10 +30,18 @@ def expire(folder, asked, time):
     least = least_of(folder)
     end = max(first, announced if least is None else min(announced, least))
     if end > first:
+        refuse_tags(folder)
         removed = removed_in(folder, schema, range(first, end + 1))
         for path in [*removed, *(f"floor/floor-{floor}" for floor in floors if floor < announced)]:
             folder.remove(path)
     return f"kept {end} {last}\n"
+
+
+def refuse_tags(folder):
+    """Refuses with the least tag, if one is there: what a tag needs may not go."""
+    tags = sorted((name for name in folder.list("tag") if name.startswith("tag-")), key=str.encode)
+    if tags:
+        raise Refused(f"E10 unsupported tag {tags[0].removeprefix('tag-')}")
 
 
 def least_of(folder):

@@ -114,6 +114,7 @@ compact_steps compactors.Over f after p q kept = inr kept
 announce_steps : KnownLaws → (me : Actor) (m : announce_phase.Phase) (f after : Files) (p q : Past) → announcing.Makes me m f p after q → Advances me f p after q
 announce_steps laws me (announcers.Announce x) f after p q makes = makes.advances
 announce_steps laws me (announcers.Consumers x c) f after p q kept = laws.same me f after p q kept
+announce_steps laws me (announcers.Tags a) f after p q kept = laws.same me f after p q kept
 announce_steps laws me (announcers.Announced a) f after p q kept = laws.same me f after p q kept
 announce_steps laws me announcers.Over f after p q kept = laws.same me f after p q kept
 

@@ -169,7 +169,7 @@ EndsBehind name from (table s es) first f = HaveSettled f (table s es) (name ∷
 -- the remove was answered, whether or not the sink took what was told; else it is as it was, but that a fault of the
 -- remove leaves it so or gone. After a following that printed all its consumer is settled, behind the last frame. After
 -- an expiry all is gone that goes, and nothing else, once what is kept was told or the sink failed; else no path has
--- another content, but that want of memory and a fault of the store leave what a stop may.
+-- another content, but that want of memory and a fault of the store leave what a stop may, and a tag the floor.
 abbrev pub LeavesOwn : Start → Command → History → Option Refusal → StoreView → Files → Type 0
 LeavesOwn start (commands.Consumers (Some name)) h answer first f =
     LeavesFiles (λ was. ItEnds name answer was f) first
