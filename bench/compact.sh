@@ -8,7 +8,8 @@
 #   - The same table without a compaction: a scan, a `compact --full`, and a scan again, which has to print the same:
 #     seconds, rows a second and memory of each.
 #   - SMALL commits of one row, with a `compact` after each thirtieth: the median time of a commit and of a compaction in
-#     each tenth part of them, so that it shows whether it grows.
+#     each tenth part of them, so that it shows whether it grows; and the same with an `expire` after each hundredth that
+#     keeps a hundred snapshots.
 # It ends with 1 where a scan prints other rows than were written. The gate never runs it. It wants GNU time, the program
 # to be built by ./paimon, and that it knows `compact`; without RocksDB or LevelDB (in Debian librocksdb-dev and
 # libleveldb-dev) it leaves that out. docs/COST.md has what it printed.
@@ -116,22 +117,28 @@ in_full() {
     rm -rf "$table"
 }
 
-# Many small commits, and what each took, in microseconds.
+# One command of many, and what it took, in microseconds.
+took() {
+    local part=$1 what=$2 begun=${EPOCHREALTIME/./}
+    shift 2
+    "$program" "$@" <"$work/row" >"$work/answer" || fail "$what ended with $?"
+    echo "$part $what $((${EPOCHREALTIME/./} - begun))" >>"$work/took"
+}
+
+# Many small commits, with expiries after each so many or with none.
 grow() {
-    local table=$work/small n begun part=$(((small + 9) / 10))
+    local table=$work/small n part=$(((small + 9) / 10)) expired=$1
+    rm -rf "$table" "$work/took"
     "$program" "$table" create <"$top/examples/table.json" >"$work/answer"
     for ((n = 1; n <= small; n++)); do
         printf '["+I",%d,"value %d"]\n' $((n % 1000)) "$n" >"$work/row"
-        begun=${EPOCHREALTIME/./}
-        "$program" "$table" write <"$work/row" >"$work/answer"
-        echo "$(((n - 1) / part)) write $((${EPOCHREALTIME/./} - begun))" >>"$work/took"
-        [ $((n % few)) -eq 0 ] || continue
-        begun=${EPOCHREALTIME/./}
-        "$program" "$table" compact >"$work/answer"
-        echo "$(((n - 1) / part)) compact $((${EPOCHREALTIME/./} - begun))" >>"$work/took"
+        took $(((n - 1) / part)) write "$table" write
+        [ $((n % few)) -ne 0 ] || took $(((n - 1) / part)) compact "$table" compact
+        [ "$expired" -eq 0 ] || [ $((n % expired)) -ne 0 ] ||
+            took $(((n - 1) / part)) expire "$table" expire --min 1 --max "$expired" --millis 0
     done
-    echo "$small commits of one row, a compact after each ${few}th: the medians of each tenth part, in ms"
-    for what in write compact; do
+    echo "$small commits of one row, a compact after each ${few}th, an expire after each ${expired}th: the medians of each tenth part, in ms"
+    for what in write compact expire; do
         printf '  %s:' "$what"
         for ((n = 0; n < 10; n++)); do
             awk -v part="$n" -v what="$what" '$1 == part && $2 == what { print $3 }' "$work/took" | sort -n |
@@ -153,4 +160,5 @@ for shape in spread same; do
     compacted
     in_full
 done
-grow
+grow 0
+grow 100
