@@ -1,5 +1,5 @@
 -- The changelog files of a batch: each holds its group's rows by key, and so the group's part of the snapshot's change.
-use Rattle.std.proofs.Common.{◌≡◌, ◌≢◌, ℕ, ℤ, suc, Bool, true, false, true≢false, cond, List, [], ◌∷◌, ◌++◌, length, map, filter, Option, None, Some}
+use Rattle.std.proofs.Common.{◌≡◌, ◌≢◌, ℕ, ◌+◌, ℤ, suc, Bool, true, false, true≢false, cond, List, [], ◌∷◌, ◌++◌, length, map, filter, Option, None, Some}
 use Rattle.std.proofs.Common.{Contains, refl, sym, ap, subst, ◌∙◌, arith}
 use Rattle.std.specs.BTreeMap.{is_at}
 use Rattle.std.specs.FinMap as finite
@@ -8,6 +8,7 @@ use Rattle.std.specs.List.Sorted.{IsStrictlySortedBy}
 use Rattle.std.specs.Map.{keys_of}
 use Rattle.std.specs.Ordering.{eq_by_cmp}
 use Rattle.std.proofs.lemmas.List.{length-map}
+use Rattle.std.proofs.lemmas.List.Sums.{sum_by-cons}
 use Rattle.pm_store.specs.Files.{Files}
 use Rattle.pm_values.specs.GroupOrder.{group_cmp}
 use Rattle.pm_values.specs.Names.{Naming}
@@ -24,7 +25,7 @@ use Rattle.pm_model_history.specs.History.{Entry, append, entry_rows}
 use Rattle.pm_model_history.specs.Merge.{AllFit, HistoryRow, rows_of}
 use Rattle.pm_model_history.specs.Merged.{primary_of}
 use Rattle.pm_model_following.specs.Following.{base_of, by_key, change}
-use Rattle.pm_model_following.specs.Groups.{group_of, rows_in}
+use Rattle.pm_model_following.specs.Groups.{rows_in}
 use Rattle.pm_engine.specs.Covers.{row_of}
 use Rattle.pm_model_changelog.specs.Log.{Compares, PassesNothing}
 use Rattle.pm_changelog.specs.Written.{HoldsLog}
@@ -39,8 +40,8 @@ use Rattle.pm_made.specs.Delta.{added_entry}
 use Rattle.pm_made.proofs.ListLemmas.{filter-in, in-head, in-tail}
 use Rattle.pm_made.proofs.NumberLemmas.{group-is}
 use Rattle.pm_append.proofs.ByKeyLemmas.{as-many}
-use Rattle.pm_append.proofs.EntryLemmas.{group-only, held-only, only, own-held}
 use Rattle.pm_append.proofs.FileLemmas.{AreLogFiles, AreOfGroups, group-ties, later-groups, less-apart, logs-of-groups, none-rows}
+use Rattle.pm_append.proofs.HeldLemmas.{batch-rows, rows_of_groups}
 
 -- what the laws of lower crates say of rows by key, and of the change of a table that passes its input on
 pub record ChangeFacts : Type 0 where
@@ -225,40 +226,26 @@ module _ (facts : ChangeFacts) (f : Files) (s : TableSchema) (entries : List Ent
 
 -- ---- how many rows they tell
 
--- all rows of a table without partition columns and with one bucket are of one group
-all-only : (s : TableSchema) (g : Group) (rows : List HistoryRow) → s.partition ≡ [] → s.options.bucket ≡ 1 → g ≡ only → rows_in s g rows ≡ rows
-all-only s g [] none one is = refl
-all-only s g (r ∷ rows) none one is =
-    ap (λ (t : Bool). cond t (r ∷ rows_in s g rows) (rows_in s g rows))
-    (group-ties (group_of s r.1) g (group-only s r.1 none one ∙ sym is))
-    ∙ ap (λ (more : List HistoryRow). r ∷ more) (all-only s g rows none one is)
-
-module _ (facts : ChangeFacts) (s : TableSchema) (rows : List HistoryRow) (batch : Groups) (none : s.partition ≡ []) (one : s.options.bucket ≡ 1)
-    (is : IsBatchOf s rows batch) where
-  file-many : (g : Group) (x : NewFile) → g ≡ only → IsLogWritten s rows g x → x.meta.rows ≡ length rows
-  file-many g x is_only written =
+module _ (facts : ChangeFacts) (s : TableSchema) (rows : List HistoryRow) (batch : Groups) (is : IsBatchOf s rows batch) where
+  file-many : (g : Group) (x : NewFile) → IsLogWritten s rows g x → x.meta.rows ≡ length (rows_in s g rows)
+  file-many g x written =
       written.holds.tells.count ∙ sym (length-map written.holds.stored row_of) ∙ ap (λ (own : List HistoryRow). length own) written.holds.same
-      ∙ by-key-many facts s (rows_in s g rows) ∙ ap (λ (own : List HistoryRow). length own) (all-only s g rows none one is_only)
+      ∙ by-key-many facts s (rows_in s g rows)
 
-  only-held : (e : Group × GroupRows) → held_of e.0 batch ≡ Some e.1 → e.0 ≡ only
-  only-held e held = held-only s rows e.0 e.1 none one (own-held s rows batch e is held)
-
-  by-groups : (es : Groups) (xs : List NewFile) → IsStrictlySortedBy group_cmp (keys_of es)
-      → AllByRecursion (λ (e : Group × GroupRows). held_of e.0 batch ≡ Some e.1) es → AreWrittenLogs s rows es xs → (es ≡ [] → rows ≡ [])
-      → rows_in_files (map (added_entry s) xs) ≡ length rows
-  unfolding IsStrictlySortedBy
-  by-groups [] [] ordered held each empty = sym (ap (λ (rs : List HistoryRow). length rs) (empty refl))
-  by-groups [] (x ∷ xs) ordered held each empty = absurd each
-  by-groups (e ∷ es) [] ordered held each empty = absurd each
-  by-groups (e ∷ []) (x ∷ []) ordered held each empty = let many = file-many e.0 x (only-held e held.0) each.0 in omega (arith, many)
-  by-groups (e ∷ []) (x ∷ y ∷ xs) ordered held each empty = absurd each.1
-  by-groups (e ∷ d ∷ es) (x ∷ xs) ordered held each empty =
-      absurd (less-apart e.0 d.0 ordered.0.0 (only-held e held.0 ∙ sym (only-held d held.1.0)))
+  by-groups : (held : Groups) (xs : List NewFile) → AreWrittenLogs s rows held xs → rows_in_files (map (added_entry s) xs) ≡ rows_of_groups s rows held
+  by-groups [] [] each = refl
+  by-groups [] (x ∷ xs) each = absurd each
+  by-groups (d ∷ es) [] each = absurd each
+  by-groups (d ∷ es) (x ∷ xs) each =
+      let many = file-many d.0 x each.0 in
+      let rest = by-groups es xs each.1 in
+      let sum : rows_in_files (map (added_entry s) (x ∷ xs)) ≡ x.meta.rows + rows_in_files (map (added_entry s) xs) =
+      sum_by-cons (λ (z : files.Entry). z.file.rows) (added_entry s x) (map (added_entry s) xs) in
+      omega (arith, sum, many, rest)
 
   -- each row is told once
-  pub told-once : (xs : List NewFile) → AllByRecursion (λ (e : Group × GroupRows). held_of e.0 batch ≡ Some e.1) batch → AreWrittenLogs s rows batch xs
-      → (batch ≡ [] → rows ≡ []) → rows_in_files (map (added_entry s) xs) ≡ length rows
-  told-once xs held each empty = by-groups batch xs is.ordered held each empty
+  pub told-once : (xs : List NewFile) → AreWrittenLogs s rows batch xs → rows_in_files (map (added_entry s) xs) ≡ length rows
+  told-once xs each = by-groups batch xs each ∙ batch-rows s rows batch is
 
 -- ---- what is written of the logs
 

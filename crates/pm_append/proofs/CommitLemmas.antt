@@ -60,7 +60,7 @@ use Rattle.pm_append.specs.Commit.{AreBase, AreBaseIf, AreMerged, Grows, HasAppe
 use Rattle.pm_append.specs.Snapshot.{append_snapshot}
 use Rattle.pm_append.proofs.ChangeLemmas.{AreLogs, ChangeFacts, holds-input, holds-none, no-rows, none-logged, told-once, written-logs}
 use Rattle.pm_append.proofs.CountLemmas.{adds-rows}
-use Rattle.pm_append.proofs.EntryLemmas.{changes-can-be, entries-can-be}
+use Rattle.pm_append.proofs.EntryLemmas.{AreBuckets, changes-can-be, entries-can-be}
 use Rattle.pm_append.proofs.FitLemmas.{batch-fits}
 use Rattle.pm_append.proofs.FileLemmas.{AreLogFiles, apart-files, are-adds, data-of-groups, next-above}
 use Rattle.pm_append.proofs.GrownLemmas.{GroupFacts, NewRuns, go-on, stands}
@@ -90,6 +90,7 @@ pub record Facts : Type 0 where
   pub quiet : (s : TableSchema) (rows : List HistoryRow) (batch : Groups) → s.options.producer ≢ producers.Input → IsBatchOf s rows batch
       → logs_in batch ≡ []
   pub empty : (s : TableSchema) (rows : List HistoryRow) (batch : Groups) → IsBatchOf s rows batch → (batch ≡ []) ↔ (rows ≡ [])
+  pub buckets : (s : TableSchema) (rows : List HistoryRow) (batch : Groups) → 1 ≤ s.options.bucket → IsBatchOf s rows batch → AreBuckets s batch
   pub change : ChangeFacts
 
 -- ---- what was made of a batch
@@ -199,12 +200,17 @@ module _ (facts : Facts) (made_law : MadeLaw) (commit_law : CommitLaw) (me : Act
   abbrev held : AllByRecursion (λ (e : Group × GroupRows). held_of e.0 t.batch ≡ Some e.1) t.batch
   held = facts.held s t.rows t.batch ready.batch
 
+  rows-fit : AllFit s.columns t.rows
+  rows-fit = batch-fits facts.groups.covers s t.rows t.batch ready.batch
+
+  buckets : AreBuckets s t.batch
+  buckets = facts.buckets s t.rows t.batch ready.declared.options.bucket.0 ready.batch
+
   adds : AreAdds added
   adds = are-adds s xs (apart-files t.batch xs (data-of-groups s own.numbered.next t.names t.batch xs new_files.runs) ready.batch.ordered)
 
   can-come : AllByRecursion (IsEntry (shape_of s)) added
-  can-come = entries-can-be s t.rows t.batch own.numbered.next t.names xs ready.single.declared ready.single.no_partition ready.single.one_bucket
-      ready.batch new_files.runs held
+  can-come = entries-can-be s t.rows t.batch own.numbered.next t.names xs ready.declared rows-fit buckets ready.batch new_files.runs held
       (subst (λ (d : Delta). AllByRecursion (IsWithin (shape_of s)) (entries_of d)) own.delta
       (entries-within s t.newest ready.made.left (entries_of ready.made.delta) ready.made.delta.changes ready.made.lists ready.made.list_files ready.made.are_manifests))
 
@@ -228,7 +234,7 @@ module _ (facts : Facts) (made_law : MadeLaw) (commit_law : CommitLaw) (me : Act
   can-tell : AllByRecursion (IsEntry (shape_of s)) changes
   can-tell = elim by-producer as (λ _. AllByRecursion (IsEntry (shape_of s)) changes) [
     | inr other ↦ subst (λ (ys : List NewFile). AllByRecursion (IsEntry (shape_of s)) (map (added_entry s) ys)) (sym (none-told other)) tt
-    | inl input ↦ changes-can-be s t.rows t.batch (after_names (length xs) t.names) zs ready.single.declared ready.single.no_partition ready.single.one_bucket
+    | inl input ↦ changes-can-be facts.change.same s t.rows t.batch (after_names (length xs) t.names) zs ready.declared rows-fit buckets
         input ready.batch (logged input) held within-told
   ]
 
@@ -358,7 +364,7 @@ module _ (facts : Facts) (made_law : MadeLaw) (commit_law : CommitLaw) (me : Act
 
   has-group : (g : Group) → HasGroup after s (entries ++ entry_of t ∷ []) (suc k) (live_in seen.contents) g
   has-group g = stands facts.groups me t.author.base after s t.rows t.batch xs live0 (live_in seen.contents) new_runs f entries t.author.user t.author.identifier
-      holds ready.single.declared ready.folder ready.unnamed old.runs_at old.groups g
+      holds ready.declared ready.folder ready.unnamed old.runs_at old.groups g
 
   same-changes : seen.contents.changes ≡ changes
   same-changes = seen.changes ∙ ap (λ (d : Delta). d.changes) own.delta
@@ -380,14 +386,14 @@ module _ (facts : Facts) (made_law : MadeLaw) (commit_law : CommitLaw) (me : Act
   fits = subst (AllFit s.columns) (sym (flat_map-append entry_rows entries (entry_of t ∷ []) ∙ ap (λ (rs : List HistoryRow). flat_map entry_rows entries ++ rs) (append-nil t.rows)))
       (AllByRecursion-append (λ (r : HistoryRow). Fits s.columns r.1) (flat_map entry_rows entries) t.rows
       (all-weaker (IsRowOf s) (λ (r : HistoryRow). Fits s.columns r.1) (λ r is_row. is_row.fits) (flat_map entry_rows entries) ready.folder.history.rows)
-      (batch-fits facts.groups.covers s t.rows t.batch ready.batch))
+      rows-fit)
 
   holds-change : HoldsChange after s (entries ++ entry_of t ∷ []) (suc k) seen.contents.changes
   holds-change = subst (HoldsChange after s (entries ++ entry_of t ∷ []) (suc k)) (sym same-changes)
       (elim by-producer as (λ _. HoldsChange after s (entries ++ entry_of t ∷ []) (suc k) changes) [
         | inr other ↦ subst (λ (ys : List NewFile). HoldsChange after s (entries ++ entry_of t ∷ []) (suc k) (map (added_entry s) ys)) (sym (none-told other))
-            (holds-none facts.change after s entries t.author.user t.author.identifier t.rows ready.single.declared fits other)
-        | inl input ↦ holds-input facts.change after s t.rows t.batch zs (logs input) entries t.author.user t.author.identifier ready.single.declared input
+            (holds-none facts.change after s entries t.author.user t.author.identifier t.rows ready.declared fits other)
+        | inl input ↦ holds-input facts.change after s t.rows t.batch zs (logs input) entries t.author.user t.author.identifier ready.declared input
       ])
 
   commits : IsCommit f after s entries (entry_of t)
@@ -424,8 +430,7 @@ module _ (facts : Facts) (made_law : MadeLaw) (commit_law : CommitLaw) (me : Act
   tells = elim by-producer as (λ _. rows_in_files changes ≡ told_rows) [
     | inr other ↦ ap (λ (ys : List NewFile). rows_in_files (map (added_entry s) ys)) (none-told other)
         ∙ sym (none-count s.options.producer (length t.rows) other)
-    | inl input ↦ told-once facts.change s t.rows t.batch ready.single.no_partition ready.single.one_bucket ready.batch zs held (logs input).written
-        (facts.empty s t.rows t.batch ready.batch).0
+    | inl input ↦ told-once facts.change s t.rows t.batch ready.batch zs (logs input).written
         ∙ sym (ap (λ (p : Producer). told_count p (length t.rows)) input)
   ]
 
@@ -454,7 +459,7 @@ module _ (facts : Facts) (made_law : MadeLaw) (commit_law : CommitLaw) (me : Act
         (λ enough. subst (λ (metas : List ManifestMeta). HaveEntries after s metas live_items) seen.base (seen.merged enough)));
     delta = subst (λ (d : Delta). HaveEntries after s seen.contents.delta (entries_of d)) own.delta seen.entries;
     adds = adds-at-zero s own.numbered.next t.names t.batch xs new_files.runs;
-    few = files-few s t.rows t.batch ready.single.no_partition ready.single.one_bucket ready.batch own.numbered.next t.names xs held new_files.runs;
+    few = files-few s t.rows t.batch ready.batch own.numbered.next t.names xs held new_files.runs;
     tells = ap (λ (es : List files.Entry). rows_in_files es) same-changes ∙ tells;
     quiet = quiet;
   }

@@ -2,9 +2,10 @@ mod ByKeyLemmas
 mod ChangeLemmas
 mod CommitLemmas
 mod CountLemmas
-pub mod EntryLemmas
+mod EntryLemmas
 mod FileLemmas
-mod FitLemmas
+pub mod FitLemmas
 mod GroupLemmas
 mod GrownLemmas
+mod HeldLemmas
 mod RowCountLemmas

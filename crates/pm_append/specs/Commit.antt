@@ -40,12 +40,6 @@ use Rattle.pm_made.specs.declared.newest.Newest.{Newest}
 use Rattle.pm_made.specs.declared.snapshot.ListNames.{ListNames}
 use Rattle.pm_append.specs.Snapshot.{append_snapshot}
 
--- the table has one group: one bucket, and no partition columns
-pub record HasOneGroup (s : TableSchema) : Type 0 where
-  pub declared : IsDeclared s
-  pub no_partition : s.partition ≡ []
-  pub one_bucket : s.options.bucket ≡ 1
-
 -- one try to append: the rows and their batch, who commits them, the newest snapshot as it was found, the maker of
 -- names before it named the files, and what was made
 pub record Try : Type 0 where
@@ -74,7 +68,7 @@ entry_of t = append t.author.user t.author.identifier t.rows
 -- a file that the actor named.
 pub record IsReady (me : Actor) (f : Files) (s : TableSchema) (entries : List Entry) (t : Try) : Type 0 where
   pub folder : HasTable f s entries
-  pub single : HasOneGroup s
+  pub declared : IsDeclared s
   pub newest : IsNewestOf f s entries t.newest
   pub batch : IsBatchOf s t.rows t.batch
   pub made : IsMadeOf s t.newest t.author (intents.Append t.batch) t.names t.made

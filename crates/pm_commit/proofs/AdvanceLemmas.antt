@@ -1,5 +1,5 @@
 -- A change of an actor whose files no known snapshot names advances what is known.
-use Rattle.std.proofs.Common.{◌≡◌, ◌≢◌, ◌⊎◌, inl, inr, ◌↔◌, ℕ, zero, suc, ◌+◌, ◌-◌, ◌≤◌, ◌==◌, Bool, true, false, if◌then◌else◌, List, [], ◌∷◌, ◌++◌, Contains, drop, get_or, length, length-append, take, Option, None, Some, IsSome, refl, sym, ap, subst, ◌∙◌, eqb-true, true≢false, arith}
+use Rattle.std.proofs.Common.{◌≡◌, ◌≢◌, ◌⊎◌, inl, inr, ◌↔◌, ℕ, zero, suc, ◌+◌, ◌-◌, ◌≤◌, ◌==◌, Bool, true, false, List, [], ◌∷◌, ◌++◌, Contains, drop, get_or, length, length-append, take, Option, None, Some, IsSome, refl, sym, ap, subst, ◌∙◌, eqb-true, true≢false, arith}
 use Rattle.std.specs.FinMap as map
 use Rattle.std.proofs.lemmas.Bool.{eq-eqb}
 use Rattle.pm_store.specs.Files.{Files, Puts}
@@ -9,7 +9,7 @@ use Rattle.pm_schema.specs.declared.schema.TableSchema.{TableSchema}
 use Rattle.pm_snapshot.specs.Names.{greatest, snapshot_name}
 use Rattle.pm_snapshot.specs.declared.snapshot.Snapshot.{Snapshot}
 use Rattle.pm_model_contents.specs.Named.{Contents, HasContents, IsNamed}
-use Rattle.pm_model_folder.specs.Changes.{Actor, Change, IsNamedBy, IsNoOrigin, IsOwn, NamesOwn, nothing, own_file}
+use Rattle.pm_model_folder.specs.Changes.{Actor, Change, HavePlainNames, IsNamedBy, IsNoOrigin, IsOwn, IsTablePath, NamesOwn, nothing, own_file}
 use Rattle.pm_model_folder.specs.Commits.{IsCommitted, Names, Needs}
 use Rattle.pm_model_folder.specs.Folder.{HasTable}
 use Rattle.pm_model_folder.specs.Ledger.{Advances, HasNamedNone, IsKnown, IsOldOrUnnamed, IsUnnamed, KnowsTable, Past, RunsFollow, Stands, count_of, untouched}
@@ -24,7 +24,7 @@ use Rattle.pm_runs.specs.Succession.{Follows, KnownRun}
 use Rattle.pm_paths.proofs.ListLemmas.{cases, here, more, nowhere}
 use Rattle.pm_read_table.specs.Named.{named_paths, parts_of}
 use Rattle.pm_read_table.specs.View.{live_entries}
-use Rattle.pm_commit.proofs.PathLemmas.{InTable, names-in, not-schema, not-snapshot, same-id, snapshot-schema}
+use Rattle.pm_commit.proofs.PathLemmas.{names-in, not-schema, not-snapshot, same-id, snapshot-schema}
 
 -- ---- whether a path is in a list
 
@@ -77,24 +77,24 @@ same-advances me f after p same =
 -- ---- a path that no known snapshot needs appears
 
 -- a file that the actor named
-pub own-unnamed : (me : Actor) (p : Past) (s : TableSchema) (path : List ℕ) → IsTableOf s p.history → HasNamedNone me p → InTable path → IsNamedBy me path
+pub own-unnamed : (me : Actor) (p : Past) (s : TableSchema) (path : List ℕ) → IsTableOf s p.history → HasNamedNone me p → IsTablePath path → IsNamedBy me path
     → IsUnnamed p s path
 own-unnamed me p s path is none at by id known (inl same) = not-snapshot (snapshot_name id) path at (sym same)
 own-unnamed me p s path is none at by id known (inr (inl (x, there, same))) = not-schema x.schema_id path at (sym same)
 own-unnamed me p s path is none at by id known (inr (inr named)) = none s id path is known named by
 
 -- the snapshot after the newest
-next-unnamed : (p : Past) (s : TableSchema) (entries : List Entry) → s.partition ≡ [] → p.history ≡ table s entries → suc (length entries) ≤ greatest
+next-unnamed : (p : Past) (s : TableSchema) (entries : List Entry) → HavePlainNames s → p.history ≡ table s entries → suc (length entries) ≤ greatest
     → IsUnnamed p s (snapshot_path (suc (length entries)))
-next-unnamed p s entries flat was bound id known (inl same) =
+next-unnamed p s entries plain was bound id known (inl same) =
     let high = known.to in
     let many = count-is p s entries was in
     let one = same-id (suc (length entries)) id bound (omega (arith, high, many, bound)) same in
     omega (arith, one, high, many)
-next-unnamed p s entries flat was bound id known (inr (inl (x, there, same))) = snapshot-schema (suc (length entries)) x.schema_id same
-next-unnamed p s entries flat was bound id known (inr (inr named)) =
+next-unnamed p s entries plain was bound id known (inr (inl (x, there, same))) = snapshot-schema (suc (length entries)) x.schema_id same
+next-unnamed p s entries plain was bound id known (inr (inr named)) =
     let path : List ℕ = snapshot_path (suc (length entries)) in
-    not-snapshot (snapshot_name (suc (length entries))) path (names-in (p.stood id) s id path flat named) refl
+    not-snapshot (snapshot_name (suc (length entries))) path (names-in (p.stood id) s id path plain named) refl
 
 -- where it alone changed, what appears is unnamed
 fresh-at : (f after : Files) (p : Past) (s : TableSchema) (path : List ℕ) (content : Option (List ℕ)) → IsTableOf s p.history → IsUnnamed p s path
@@ -106,7 +106,7 @@ fresh-at f after p s path content is unnamed puts t q same none here id known ne
     some-none (map.get after q) here (puts.others q apart ∙ none)
 
 pub own-advances : (me : Actor) (f after : Files) (p : Past) (s : TableSchema) (path content : List ℕ) → IsTableOf s p.history → HasNamedNone me p
-    → IsOwn me path → InTable path → IsNamedBy me path → IsNoOrigin p.history path → map.get f path ≡ None → Puts f path (Some content) after
+    → IsOwn me path → IsTablePath path → IsNamedBy me path → IsNoOrigin p.history path → map.get f path ≡ None → Puts f path (Some content) after
     → Advances me f p after p
 own-advances me f after p s path content is none own at by apart absent puts =
     beside me f after p p.history (own_file path content own apart absent puts) refl
@@ -159,7 +159,7 @@ GoesWith after p s entries e g new =
     AreInFiles after s (suc (length entries)) g new × Follows s g p.since (λ n. p.runs n g) (length entries) e new
 
 module _ (one : OneContents) (same : SameContents) (paths : NamedPaths) (me : Actor) (f after : Files) (p : Past) (s : TableSchema) (entries : List Entry) (e : Entry)
-    (content : List ℕ) (stands : Stands f p) (flat : s.partition ≡ []) (was : p.history ≡ table s entries) (none : HasNamedNone me p)
+    (content : List ℕ) (stands : Stands f p) (plain : HavePlainNames s) (was : p.history ≡ table s entries) (none : HasNamedNone me p)
     (newest : HasSnapshotAt f s (length entries)) (bound : suc (length entries) ≤ greatest) (puts : Puts f (snapshot_path (suc (length entries))) (Some content) after)
     (own : NamesOwn me f after s (length entries)) (new : Group → List KnownRun) (goes : (g : Group) → GoesWith after p s entries e g (new g)) where
   abbrev n : ℕ
@@ -182,7 +182,7 @@ module _ (one : OneContents) (same : SameContents) (paths : NamedPaths) (me : Ac
 
   -- what is new of the newest was named by the actor
   new-named : (path : List ℕ) → Names after s (suc n) path → (Names f s n path → ⊥) → IsUnnamed p s path
-  new-named path named differs = own-unnamed me p s path is none (names-in after s (suc n) path flat named) (own path named differs)
+  new-named path named differs = own-unnamed me p s path is none (names-in after s (suc n) path plain named) (own path named differs)
 
   old-or-unnamed : (path : List ℕ) → Names after s (suc n) path → (IsKnown p n × Names (p.stood n) s n path) ⊎ IsUnnamed p s path
   old-or-unnamed path named = at n refl
@@ -240,7 +240,7 @@ module _ (one : OneContents) (same : SameContents) (paths : NamedPaths) (me : Ac
   pub append-advances : Change me f (table s entries) after q.history → Advances me f p after q
   append-advances change = record {
     change = subst (λ (h : History). Change me f h after q.history) (sym was) change;
-    fresh = fresh-at f after p s (snapshot_path (suc n)) (Some content) is (next-unnamed p s entries flat was bound) puts;
+    fresh = fresh-at f after p s (snapshot_path (suc n)) (Some content) is (next-unnamed p s entries plain was bound) puts;
     first = refl;
     same = λ id known. at-other after (p.stood id) id (suc n) (old-known id known);
     stood = λ id known unknown. at-same after (p.stood id) id (suc n) (last-known id known unknown);

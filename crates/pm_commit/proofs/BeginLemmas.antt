@@ -1,51 +1,47 @@
 -- A compaction begins with its first try made, while its files of rows are yet to be created.
-use Rattle.std.proofs.Common.{◌≡◌, inl, inr, ℕ, ◌+◌, ◌<◌, ◌≤◌, ◌^◌, List, [], ◌∷◌, ◌++◌, length, map as each, Option, None, Some, option_to_list, IfSome, refl, sym, ap, subst, arith}
+use Rattle.std.proofs.Common.{◌≡◌, inl, inr, ℕ, ◌+◌, ◌<◌, ◌≤◌, ◌^◌, List, [], ◌∷◌, ◌++◌, length, Option, None, Some, IfSome, refl, sym, ap, subst, arith}
 use Rattle.std.specs.FinMap as map
-use Rattle.std.specs.List.{AllByRecursion, flat_map}
-use Rattle.pm_base.proofs.Laws.{AllByRecursion-append}
+use Rattle.std.specs.List.{AllByRecursion}
 use Rattle.pm_values.specs.Names.{Naming}
 use Rattle.pm_store.specs.Files.{Files, Puts}
-use Rattle.pm_run.specs.declared.run.RunFile.{RunFile}
-use Rattle.pm_values.specs.declared.group.Group.{Group}
-use Rattle.pm_model_history.specs.History.{Entry, IsTableOf, compaction}
+use Rattle.pm_model_history.specs.History.{Entry, compaction}
+use Rattle.pm_schema.specs.Again.{IsDeclared}
 use Rattle.pm_schema.specs.declared.schema.TableSchema.{TableSchema}
 use Rattle.pm_snapshot.specs.Names.{MayName}
-use Rattle.pm_model_folder.specs.Changes.{Actor, IsOwnFile, its_file}
+use Rattle.pm_model_folder.specs.Changes.{Actor, IsOwnFile, IsTablePath, its_file}
 use Rattle.pm_model_folder.specs.Ledger.{Advances, HasNamedNone, Past, Stands}
+use Rattle.pm_model_folder.proofs.PathLemmas.{own-in_table}
 use Rattle.pm_put.proofs.Facts.{next_left, put-more}
 use Rattle.pm_put.specs.declared.putting.CommitFile.{CommitFile}
-use Rattle.pm_append.specs.Commit.{HasOneGroup}
-use Rattle.pm_made.specs.declared.intent.Intent.{Intent}
 use Rattle.pm_made.specs.declared.intent.Intent.TheVariants as intents
 use Rattle.pm_made.specs.declared.intent.Plan.{Plan}
 use Rattle.pm_made.specs.declared.newest.Author.{Author}
 use Rattle.pm_made.specs.declared.newest.Newest.{Newest}
 use Rattle.pm_made.proofs.FileCountLemmas.{made-few}
-use Rattle.pm_compaction.specs.Plan.{KnowsPlan, RewrittenGroup, ToldGroup, group_file, made_files, told_files}
+use Rattle.pm_compaction.specs.Plan.{KnowsPlan}
 use Rattle.pm_commit.specs.Committer.{Begins, IsCommitter, calls_left, first_of_put, most_calls, publishing_of}
-use Rattle.pm_commit.specs.Meaning.{AreThere, IsFoundIn, KnowsBut, KnowsOwn, MakesEntry, MakesFile, MakesIn, MakesOwn, PlannedIn, WasGiven, own_in, path_after}
+use Rattle.pm_commit.specs.Meaning.{AreThere, IsFoundIn, KnowsBut, KnowsOwn, MakesEntry, MakesFile, MakesIn, MakesOwn, WasGiven, own_in, path_after}
 use Rattle.pm_commit.specs.Own.{IsOwn, IsTried, OwnView, actor_of, own_for_plan, with_named}
 use Rattle.pm_commit.specs.declared.found.Found.{Found}
 use Rattle.pm_commit.specs.declared.phase.Phase.{Phase}
 use Rattle.pm_commit.specs.declared.phase.Phase.TheVariants as phases
 use Rattle.pm_commit.proofs.AddsLemmas.{adds-one}
-use Rattle.pm_commit.proofs.AdvanceLemmas.{one-table, own-advances}
+use Rattle.pm_commit.proofs.AdvanceLemmas.{own-advances}
 use Rattle.pm_commit.proofs.CommitterLemmas.{makes-committer}
 use Rattle.pm_commit.proofs.CreateLemmas.{all-at}
 use Rattle.pm_commit.proofs.KnownLemmas.{made-known}
-use Rattle.pm_commit.proofs.PathLemmas.{IsInTable, in-bucket, no-origin}
+use Rattle.pm_commit.proofs.PathLemmas.{no-origin}
 use Rattle.pm_commit.proofs.PublishLemmas.{own-same}
 use Rattle.pm_commit.proofs.StillLemmas.{IsHeld, IsMadeBy, OwnFiles, OwnGiven, WasGivenBy, always-if, given-own, held-in, in-still}
 
 -- ---- it begins
 
-pub plan-own : (s : TableSchema) (author : Author) (plan : Plan) (names : Naming) → HasOneGroup s → names.base ≡ author.base → names.count ≤ 2 ^ 61
+pub plan-own : (s : TableSchema) (author : Author) (plan : Plan) (names : Naming) → IsDeclared s → names.base ≡ author.base → names.count ≤ 2 ^ 61
     → IsOwn s (own_for_plan plan author names)
-plan-own s author plan names built based count = record {
-  single = built;
+plan-own s author plan names declared based count = record {
+  declared = declared;
   made_for = tt;
   fits = tt;
-  one_group = tt;
   few = omega arith;
   same_base = based;
   within = omega arith;
@@ -92,42 +88,16 @@ begins f p s newest author plan names given m is_found at_newest knows may none 
 
 -- ---- a file of rows is created
 
--- they are in the table's buckets
-files-in : (s : TableSchema) (g : Group) (files : List RunFile) → s.partition ≡ [] → AllByRecursion IsInTable (each (group_file s g) files)
-files-in s g [] flat = tt
-files-in s g (f ∷ files) flat = (in-bucket s g f.meta.name flat, files-in s g files flat)
-
-groups-in : (s : TableSchema) (groups : List RewrittenGroup) → s.partition ≡ [] → AllByRecursion IsInTable (flat_map (made_files s) groups)
-groups-in s [] flat = tt
-groups-in s (x ∷ groups) flat =
-    AllByRecursion-append IsInTable (made_files s x) (flat_map (made_files s) groups) (files-in s x.group x.files flat) (groups-in s groups flat)
-
-told-in : (s : TableSchema) (told : List ToldGroup) → s.partition ≡ [] → AllByRecursion IsInTable (flat_map (told_files s) told)
-told-in s [] flat = tt
-told-in s (y ∷ told) flat =
-    AllByRecursion-append IsInTable (told_files s y) (flat_map (told_files s) told) (files-in s y.group (option_to_list y.file) flat) (told-in s told flat)
-
-given-in : (intent : Intent) (me : Actor) (base : ℕ) (given : List CommitFile) (p : Past) (s : TableSchema) → IsTableOf s p.history → s.partition ≡ []
-    → PlannedIn intent me base given p → AllByRecursion IsInTable given
-given-in (intents.Append batch) me base given p s is flat none = subst (AllByRecursion IsInTable) (sym none) tt
-given-in (intents.Compact plan) me base given p s is flat (t, knows) =
-    let none : t.partition ≡ [] = subst (λ (t : TableSchema). t.partition ≡ []) (one-table s t p.history is knows.table) flat in
-    subst (AllByRecursion IsInTable) (sym knows.given_are)
-    (AllByRecursion-append IsInTable (flat_map (made_files t) knows.groups) (flat_map (told_files t) knows.told) (groups-in t knows.groups none)
-    (told-in t knows.told none))
-given-in (intents.Fence number) me base given p s is flat none = absurd none
-
 module _ (law : OwnGiven) (own_files : OwnFiles) (e : Entry) (given done left : List CommitFile) (file : CommitFile) (f after : Files) (p : Past)
     (parts : given ≡ done ++ file ∷ left) where
   -- it makes one of the actor's own
   file-makes : (own : OwnView) → IsHeld e p own → WasGivenBy given done f p own → MakesFile file f after → MakesOwn own e f p after p
-  file-makes own (s, built, known) (planned, there) (inl same) = own-same own e f after p same
-  file-makes own (s, built, known) (planned, there) (inr (content, (absent, puts))) =
+  file-makes own (s, plain, known) (planned, there) (inl same) = own-same own e f after p same
+  file-makes own (s, plain, known) (planned, there) (inr (content, (absent, puts))) =
       let me : Actor = actor_of own in
-      let all = given-own law own.intent me own.author.base given p s known.is_table built planned in
+      let all = given-own law own.intent me own.author.base given p s known.is_table plain planned in
       let is : IsOwnFile me own.author.base file.path = all-at (IsMadeBy me own.author.base) done left file (subst (AllByRecursion (IsMadeBy me own.author.base)) parts all) in
-      let buckets = given-in own.intent me own.author.base given p s known.is_table built.no_partition planned in
-      let at : IsInTable file = all-at IsInTable done left file (subst (AllByRecursion IsInTable) parts buckets) in
+      let at : IsTablePath file.path = own-in_table me own.author.base file.path is in
       record {
         advances = own-advances me f after p s file.path content known.is_table known.unnamed (its_file is.by is.in_table) at is.by
             (no-origin p.history file.path at) absent puts;

@@ -46,7 +46,7 @@ begun-at P own n stays sets = begun-first P own n stays (λ first. sets)
 
 pub begun-own : (s : TableSchema) (own : OwnView) (n : ℕ) → IsOwn s own → IsOwn s (begun n own)
 begun-own s own n is = begun-at (IsOwn s) own n is
-    (record { single = is.single; made_for = is.made_for; fits = is.fits; one_group = is.one_group; few = is.few; same_base = refl; within = is.within; named = is.named })
+    (record { declared = is.declared; made_for = is.made_for; fits = is.fits; few = is.few; same_base = refl; within = is.within; named = is.named })
 
 pub begun-intent : (own : OwnView) (n : ℕ) → (begun n own).intent ≡ own.intent
 begun-intent own n = begun-at (λ o. o.intent ≡ own.intent) own n refl refl
@@ -57,10 +57,9 @@ begun-lost own n = begun-at (λ o. o.lost ≡ own.lost) own n refl refl
 pub made-tried : (own : OwnView) (found : Found) (made : Made) → IsMadeOf found.schema found.newest own.author own.intent own.names made → IsOwn found.schema own
     → IsTried found.schema (with_named (own.names.count + length made.files.items) own)
 made-tried own found made is own_of = record {
-  single = own_of.single;
+  declared = own_of.declared;
   made_for = own_of.made_for;
   fits = own_of.fits;
-  one_group = own_of.one_group;
   few = own_of.few;
   same_base = own_of.same_base;
   within = own_of.within;
@@ -74,10 +73,9 @@ made-tried own found made is own_of = record {
 lost-own : (s : TableSchema) (own : OwnView) (id : ℕ) → length own.lost + 1 < tries → IsTried s own → IsOwn s (with_lost id own)
 lost-own s own id left tried =
     let longer : length (own.lost ++ id ∷ []) ≡ length own.lost + 1 = length-append own.lost (id ∷ []) in record {
-      single = tried.single;
+      declared = tried.declared;
       made_for = tried.made_for;
       fits = tried.fits;
-      one_group = tried.one_group;
       few = tried.few;
       same_base = tried.same_base;
       within = omega (arith, longer, left);

@@ -5,8 +5,10 @@ use Rattle.std.specs.List.{AllByRecursion}
 use Rattle.pm_store.specs.Files.{Files, Puts}
 use Rattle.pm_model_history.specs.History.{Entry}
 use Rattle.pm_schema.specs.declared.schema.TableSchema.{TableSchema}
-use Rattle.pm_model_folder.specs.Changes.{IsNamedBy, IsOwn, IsOwnFile, its_file}
+use Rattle.pm_partitions.proofs.Plain.{plain_names}
+use Rattle.pm_model_folder.specs.Changes.{IsNamedBy, IsOwn, IsOwnFile, IsTablePath, its_file}
 use Rattle.pm_model_folder.specs.Ledger.{Past}
+use Rattle.pm_model_folder.proofs.PathLemmas.{own-in_table}
 use Rattle.pm_made.specs.Commit.{Attempt}
 use Rattle.pm_put.proofs.Facts.{at_next, put-more}
 use Rattle.pm_put.specs.Making.{MakingView}
@@ -20,7 +22,7 @@ use Rattle.pm_commit.specs.Meaning.{AreThere, KnowsOwn, KnowsTry, MakesOwn, path
 use Rattle.pm_commit.specs.Own.{IsTried, OwnView, actor_of}
 use Rattle.pm_commit.proofs.AddsLemmas.{adds-one}
 use Rattle.pm_commit.proofs.AdvanceLemmas.{own-advances}
-use Rattle.pm_commit.proofs.PathLemmas.{InTable, IsInTable, made-in, no-origin}
+use Rattle.pm_commit.proofs.PathLemmas.{no-origin}
 use Rattle.pm_commit.proofs.PublishLemmas.{own-same}
 use Rattle.pm_commit.proofs.StillLemmas.{OwnFiles}
 
@@ -39,14 +41,13 @@ module _ (own_files : OwnFiles) (own : OwnView) (e : Entry) (s : TableSchema) (i
   is-file : IsOwnFile (actor_of own) t.author.base making.next.path
   is-file = all-at (λ (file : CommitFile). IsOwnFile (actor_of own) t.author.base file.path) has.done making.rest making.next
       (subst (AllByRecursion (λ (file : CommitFile). IsOwnFile (actor_of own) t.author.base file.path)) has.files
-      (own_files (actor_of own) s t tried.single is_try.names is_try.made))
+      (own_files (actor_of own) s t (plain_names s tried.declared) is_try.names is_try.made))
 
   is-own : IsOwn (actor_of own) making.next.path
   is-own = its_file is-file.by is-file.in_table
 
-  is-in : InTable making.next.path
-  is-in = all-at IsInTable has.done making.rest making.next
-      (subst (AllByRecursion IsInTable) has.files (made-in s t.newest t.author t.intent t.names t.made is_try.made tried.single.no_partition))
+  is-in : IsTablePath making.next.path
+  is-in = own-in_table (actor_of own) t.author.base making.next.path is-file
 
   -- it bears the actor's name
   pub create-named : IsNamedBy (actor_of own) making.next.path

@@ -1,11 +1,10 @@
 -- What a commit is for.
-use Rattle.std.proofs.Common.{◌≡◌, ◌≢◌, ℕ, ◌+◌, Bool, true, false, if◌then◌else◌, List, [], length, Option, None, Some, sym, subst}
-use Rattle.std.specs.List.{AllByRecursion}
+use Rattle.std.proofs.Common.{◌≡◌, ℕ, ◌+◌, Bool, true, false, List, [], length, Option, None, Some}
 use Rattle.pm_values.specs.declared.refusal.Refusal.{Refusal}
 use Rattle.pm_values.specs.declared.refusal.Refusal.TheVariants as refusals
 use Rattle.pm_model_history.specs.History.{Entry}
 use Rattle.pm_schema.specs.declared.schema.TableSchema.{TableSchema}
-use Rattle.pm_model_folder.specs.Changes.{Actor, HavePlainNames}
+use Rattle.pm_model_folder.specs.Changes.{Actor}
 use Rattle.pm_model_folder.specs.Ledger.{Past}
 use Rattle.pm_put.specs.declared.putting.CommitFile.{CommitFile}
 use Rattle.pm_write.specs.Batch.{Groups}
@@ -16,7 +15,6 @@ use Rattle.pm_made.specs.declared.intent.Intent.{Intent}
 use Rattle.pm_made.specs.declared.intent.Intent.TheVariants as intents
 use Rattle.pm_made.specs.declared.newest.Author.{Author}
 use Rattle.pm_made.specs.declared.newest.Newest.{Newest}
-use Rattle.pm_append.specs.Commit.{HasOneGroup}
 use Rattle.pm_commit.specs.Meaning.{PlannedIn}
 use Rattle.pm_commit.specs.Own.{IsAppend, IsNoAppend}
 
@@ -54,8 +52,3 @@ pub none-taken : (newest : Newest) (author : Author) (intent : Intent) (file : L
 none-taken newest author (intents.Append batch) file reason is = never-taken newest author batch file reason
 none-taken newest author (intents.Compact plan) file reason is = is
 none-taken newest author (intents.Fence number) file reason is = is
-
--- ---- a table that is built
-
-pub plain-names : (s : TableSchema) → HasOneGroup s → HavePlainNames s
-plain-names s built = subst (λ (names : List (List ℕ)). AllByRecursion (AllByRecursion (λ (c : ℕ). c ≢ 47)) names) (sym built.no_partition) tt

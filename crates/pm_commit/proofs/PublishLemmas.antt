@@ -1,5 +1,5 @@
 -- The publish of a try whose files are all there appends its entry to the history, while the newest snapshot stands.
-use Rattle.std.proofs.Common.{◌≡◌, inl, inr, ℕ, ℤ, zero, suc, ◌+◌, ◌-◌, ◌<◌, ◌≤◌, ◌^◌, nat_le, Bool, true, false, if◌then◌else◌, List, [], ◌∷◌, ◌++◌, length, length-append, Option, None, Some, IsSome, IsSomeAnd, refl, sym, ap, ◌∙◌, subst, arith}
+use Rattle.std.proofs.Common.{◌≡◌, inl, inr, ℕ, ℤ, zero, suc, ◌+◌, ◌-◌, ◌<◌, ◌≤◌, ◌^◌, nat_le, Bool, true, false, List, [], ◌∷◌, ◌++◌, length, length-append, Option, None, Some, IsSome, IsSomeAnd, refl, sym, ap, ◌∙◌, subst, arith}
 use Rattle.std.specs.FinMap as map
 use Rattle.std.specs.List.{AllByRecursion}
 use Rattle.std.proofs.lemmas.Bool.Decides.{nat_tests}
@@ -11,6 +11,7 @@ use Rattle.pm_store.proofs.ChangeLaws.{Answers-Changed}
 use Rattle.pm_values.specs.declared.group.Group.{Group}
 use Rattle.pm_model_history.specs.History.{Entry, History, IsTableOf, append, compaction, entry_rows, table}
 use Rattle.pm_schema.specs.declared.schema.TableSchema.{TableSchema}
+use Rattle.pm_partitions.proofs.Plain.{plain_names}
 use Rattle.pm_snapshot.specs.Names.{greatest}
 use Rattle.pm_model_folder.specs.Changes.{Actor, HavePlainNames, IsNamedBy, NamesOwn, committed as commits}
 use Rattle.pm_model_folder.specs.Commits.{IsCommit, Names}
@@ -57,7 +58,6 @@ use Rattle.pm_commit.proofs.AdvanceLemmas.{GoesWith, NamedPaths, append-advances
 use Rattle.pm_commit.proofs.FenceLemmas.{newest-fence, not-fenced}
 use Rattle.pm_commit.proofs.FoundLemmas.{LiveEntries, found-there}
 use Rattle.pm_commit.proofs.GrowLemmas.{goes-with, new_runs}
-use Rattle.pm_commit.proofs.OwnLemmas.{plain-names}
 use Rattle.pm_commit.proofs.StillLemmas.{OwnGiven, PlanStays, found-still}
 
 -- ---- what the laws of lower crates say
@@ -256,7 +256,7 @@ module _ (one : OneContents) (same : SameContents) (paths : NamedPaths) (live_la
       ready : IsReady (actor_of own) f s entries appended
       ready = record {
         folder = own-table.2;
-        single = tried.single;
+        declared = tried.declared;
         newest = record { id = newest-is; found = found-here };
         batch = means.groups;
         made = subst (λ (intent : Intent). IsMadeOf s t.newest t.author intent t.names t.made) intent-is is_try.made;
@@ -337,7 +337,7 @@ module _ (one : OneContents) (same : SameContents) (paths : NamedPaths) (live_la
         full = subst (IsFullWithin t.newest.snapshot) (sym compacts-by)
             (compact.full (actor_of own) f p s entries t.newest t.author.base plan given stands own-table.1 (record { id = newest-is; found = found-here }) knows);
         maker = is_try.names;
-        own = compact.own (actor_of own) p s t plan given (plain-names s tried.single) knows compacts-by;
+        own = compact.own (actor_of own) p s t plan given (plain_names s tried.declared) knows compacts-by;
         there = all-there;
         unnamed = names-none;
       }
@@ -400,7 +400,7 @@ module _ (one : OneContents) (same : SameContents) (paths : NamedPaths) (live_la
         let q = later_past p s entries e after adds.runs in
         let change = commits s entries e t.made.text newest-there bound absent-next puts adds.follows adds.commit adds.names in
         let advances : Advances (actor_of own) f p after q =
-        append-advances one same paths (actor_of own) f after p s entries e t.made.text stands tried.single.no_partition own-table.1 known.unnamed newest-there bound
+        append-advances one same paths (actor_of own) f after p s entries e t.made.text stands (plain_names s tried.declared) own-table.1 known.unnamed newest-there bound
         puts adds.names adds.runs adds.goes change in (
           q,
           record {

@@ -5,6 +5,7 @@ use Rattle.std.specs.List.{AllByRecursion}
 use Rattle.pm_store.specs.Files.{Files}
 use Rattle.pm_model_history.specs.History.{Entry, GoesOn, History, IsTableOf, no_table, table}
 use Rattle.pm_schema.specs.declared.schema.TableSchema.{TableSchema}
+use Rattle.pm_partitions.proofs.Plain.{plain_names}
 use Rattle.pm_model_folder.specs.Changes.{Actor, HavePlainNames, IsOwnFile}
 use Rattle.pm_model_folder.specs.Entries.{IsFenced}
 use Rattle.pm_model_folder.specs.Ledger.{Advances, HasNamedNone, Past, Stands, count_of}
@@ -16,7 +17,6 @@ use Rattle.pm_read_table.specs.Asked.{Asked}
 use Rattle.pm_read_table.specs.Meaning.{IsViewIn, view_origin, view_snapshot}
 use Rattle.pm_read_table.specs.declared.view.View.{View}
 use Rattle.pm_read_table.proofs.Facts as reader_facts
-use Rattle.pm_append.specs.Commit.{HasOneGroup}
 use Rattle.pm_made.specs.Commit.{Attempt, MakesNames}
 use Rattle.pm_made.specs.Files.{IsMadeOf}
 use Rattle.pm_made.specs.declared.intent.Intent.{Intent}
@@ -37,7 +37,6 @@ use Rattle.pm_commit.specs.declared.phase.Phase.TheVariants as phases
 use Rattle.pm_commit.proofs.AdvanceLemmas.{one-table}
 use Rattle.pm_commit.proofs.CommitterLemmas.{asked-same}
 use Rattle.pm_commit.proofs.FenceLemmas.{fenced-later}
-use Rattle.pm_commit.proofs.OwnLemmas.{plain-names}
 
 -- what the law of others' names says
 abbrev pub OthersNone : Type 0
@@ -45,16 +44,8 @@ OthersNone = (me other : Actor) (f after : Files) (p q : Past) → Stands f p �
 
 -- what the law of a commit's own files says
 abbrev pub OwnFiles : Type 0
-OwnFiles = (me : Actor) (s : TableSchema) (t : Attempt) → HasOneGroup s → MakesNames me t → IsMadeOf s t.newest t.author t.intent t.names t.made
+OwnFiles = (me : Actor) (s : TableSchema) (t : Attempt) → HavePlainNames s → MakesNames me t → IsMadeOf s t.newest t.author t.intent t.names t.made
     → AllByRecursion (λ (file : CommitFile). IsOwnFile me t.author.base file.path) t.made.files.items
-
--- it is of each table whose partition columns have plain names
-abbrev pub PlainFiles : Type 0
-PlainFiles = (me : Actor) (s : TableSchema) (t : Attempt) → HavePlainNames s → MakesNames me t → IsMadeOf s t.newest t.author t.intent t.names t.made
-    → AllByRecursion (λ (file : CommitFile). IsOwnFile me t.author.base file.path) t.made.files.items
-
-pub own-files-of : PlainFiles → OwnFiles
-own-files-of law me s t built names made = law me s t (plain-names s built) names made
 
 first-of : (P : CommitFile → Type 0) (before later : List CommitFile) → AllByRecursion P (before ++ later) → AllByRecursion P before
 first-of P [] later all = tt
@@ -65,11 +56,11 @@ abbrev pub IsMadeBy : Actor → ℕ → CommitFile → Type 0
 IsMadeBy me base file = IsOwnFile me base file.path
 
 -- so is each file of a try, with the commit's
-tried-made : OwnFiles → (own : OwnView) (s : TableSchema) (t : Attempt) → t.author ≡ own.author → HasOneGroup s → MakesNames (actor_of own) t
+tried-made : OwnFiles → (own : OwnView) (s : TableSchema) (t : Attempt) → t.author ≡ own.author → HavePlainNames s → MakesNames (actor_of own) t
     → IsMadeOf s t.newest t.author t.intent t.names t.made → AllByRecursion (IsMadeBy (actor_of own) own.author.base) t.made.files.items
-tried-made own_files own s t same built names made =
+tried-made own_files own s t same plain names made =
     subst (λ (author : Author). AllByRecursion (IsMadeBy (actor_of own) author.base) t.made.files.items) same
-    (own_files (actor_of own) s t built names made)
+    (own_files (actor_of own) s t plain names made)
 
 -- of two, each of which holds unless the same does, both do
 both-unless : {A B C : Type 0} → A ⊎ B → A ⊎ C → A ⊎ (B × C)
@@ -152,7 +143,7 @@ module _ (own_files : OwnFiles) (e : Entry) (other : Actor) (f after : Files) (p
     put = at_weaker (put_of s is_try.attempt.made) (AreThere own f p) (AreThere own after q) m
         (λ done left files. there-still own done known.unnamed (first-of (IsMadeBy (actor_of own) own.author.base) done left
         (subst (AllByRecursion (IsMadeBy (actor_of own) own.author.base)) files
-        (tried-made own_files own s is_try.attempt is_try.same_author tried.single is_try.names is_try.made))))
+        (tried-made own_files own s is_try.attempt is_try.same_author (plain_names s tried.declared) is_try.names is_try.made))))
         is_try.put;
   }
 
@@ -221,24 +212,24 @@ planned-still law (intents.Compact plan) me other base given f after p q advance
     (s, law me other f after p q s base plan given advances knows)
 planned-still law (intents.Fence number) me other base given f after p q advances is = absurd is
 
-pub given-own : OwnGiven → (intent : Intent) (me : Actor) (base : ℕ) (given : List CommitFile) (p : Past) (s : TableSchema) → IsTableOf s p.history → HasOneGroup s
+pub given-own : OwnGiven → (intent : Intent) (me : Actor) (base : ℕ) (given : List CommitFile) (p : Past) (s : TableSchema) → IsTableOf s p.history → HavePlainNames s
     → PlannedIn intent me base given p → AllByRecursion (IsMadeBy me base) given
-given-own law (intents.Append batch) me base given p s is built none = subst (AllByRecursion (IsMadeBy me base)) (sym none) tt
-given-own law (intents.Compact plan) me base given p s is built (t, knows) =
-    law me p t base plan given (subst HavePlainNames (one-table s t p.history is knows.table) (plain-names s built)) knows
-given-own law (intents.Fence number) me base given p s is built none = absurd none
+given-own law (intents.Append batch) me base given p s is plain none = subst (AllByRecursion (IsMadeBy me base)) (sym none) tt
+given-own law (intents.Compact plan) me base given p s is plain (t, knows) =
+    law me p t base plan given (subst HavePlainNames (one-table s t p.history is knows.table) plain) knows
+given-own law (intents.Fence number) me base given p s is plain none = absurd none
 
--- a commit of a table that is built, of which this is known
+-- a commit of a table with plain names, of which this is known
 abbrev pub IsHeld : Entry → Past → OwnView → Type 0
-IsHeld e p own = (s : TableSchema) × HasOneGroup s × KnowsOwn own e s p
+IsHeld e p own = (s : TableSchema) × HavePlainNames s × KnowsOwn own e s p
 
 pub held-in : (e : Entry) (m : Phase) (f : Files) (p : Past) → IsCommitter m → KnowsIn e m f p → IfSome (own_in m) (IsHeld e p)
-held-in e (phases.Names own s) f p (own_of, appends) known = (s, own_of.single, known)
+held-in e (phases.Names own s) f p (own_of, appends) known = (s, plain_names s own_of.declared, known)
 held-in e (phases.View own m) f p (left, (t, reads_t, own_of), may) (s, reads, known, reading, origin) =
     let same : t ≡ s = ap (λ (a : Asked). a.schema) (asked-same (newest_of t) (newest_of s) (sym reads_t.asked ∙ reads.asked)) in
-    (s, subst HasOneGroup same own_of.single, known)
-held-in e (phases.Search own q) f p (may, few, ids) (known, is_found) = (q.found.schema, may.own_of.single, known)
-held-in e (phases.Put own s id m) f p (tried, some, few) (known, is_try) = (s, tried.single, known)
+    (s, subst HavePlainNames same (plain_names t own_of.declared), known)
+held-in e (phases.Search own q) f p (may, few, ids) (known, is_found) = (q.found.schema, plain_names q.found.schema may.own_of.declared, known)
+held-in e (phases.Put own s id m) f p (tried, some, few) (known, is_try) = (s, plain_names s tried.declared, known)
 held-in e (phases.Committed author id) f p is known = tt
 held-in e (phases.Already author) f p is known = tt
 held-in e phases.Over f p is known = tt
@@ -252,8 +243,8 @@ pub was-still : PlanStays → OwnGiven → OwnFiles → (e : Entry) (o : Option 
     → given ≡ done ++ left → IfSome o (IsHeld e p) → IfSome o (λ own. (other : Actor) × Advances other f p after q) → IfSome o (WasGivenBy given done f p)
     → IfSome o (WasGivenBy given done after q)
 was-still stays law own_files e None given done left f after p q stands parts held changes was = tt
-was-still stays law own_files e (Some own) given done left f after p q stands parts (s, built, known) (other, advances) (planned, there) =
-    let all = given-own law own.intent (actor_of own) own.author.base given p s known.is_table built planned in (
+was-still stays law own_files e (Some own) given done left f after p q stands parts (s, plain, known) (other, advances) (planned, there) =
+    let all = given-own law own.intent (actor_of own) own.author.base given p s known.is_table plain planned in (
       planned-still stays own.intent (actor_of own) other own.author.base given f after p q advances planned,
       there-still own_files e other f after p q stands advances own done known.unnamed
           (first-of (IsMadeBy (actor_of own) own.author.base) done left (subst (AllByRecursion (IsMadeBy (actor_of own) own.author.base)) parts all)) there,

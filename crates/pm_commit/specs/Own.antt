@@ -2,6 +2,7 @@
 use Rattle.std.specs.Prelude.{◌≡◌, ℕ, ℤ, ◌+◌, ◌*◌, ◌<◌, ◌≤◌, ◌^◌, List, [], ◌∷◌, ◌++◌, length, map, Bool, false}
 use Rattle.pm_values.specs.Names.{Naming, based}
 use Rattle.pm_values.specs.declared.group.Group.{Group}
+use Rattle.pm_schema.specs.Again.{IsDeclared}
 use Rattle.pm_schema.specs.declared.schema.TableSchema.{TableSchema}
 use Rattle.pm_model_folder.specs.Changes.{Actor}
 use Rattle.pm_write.specs.Batch.{GroupRows, Groups}
@@ -10,7 +11,6 @@ use Rattle.pm_made.specs.declared.intent.Intent.{Intent}
 use Rattle.pm_made.specs.declared.intent.Intent.TheVariants as intents
 use Rattle.pm_made.specs.declared.intent.Plan.{Plan}
 use Rattle.pm_made.specs.declared.newest.Author.{Author}
-use Rattle.pm_append.specs.Commit.{HasOneGroup}
 
 -- what a commit is for and by whom, whether an earlier commit of the user is looked for, the maker of names, and the
 -- ids that tries lost to others
@@ -92,22 +92,19 @@ IsNoAppend intent = IsAppend intent → ⊥
 abbrev pub MayView : OwnView → Type 0
 MayView own = own.lost ≡ [] → IsAppend own.intent
 
--- rows that are appended are those of one group
-abbrev pub AppendsOneGroup : Intent → Type 0
-AppendsOneGroup (intents.Append batch) = length batch ≡ 1
-AppendsOneGroup other = Unit {0}
+-- no batch has more groups than this, and no commit makes more files a try, so that names suffice
+abbrev pub group_limit : ℕ
+group_limit = 2 ^ 32
 
--- no commit makes more files a try than this, so that names suffice
 abbrev pub file_limit : ℕ
 file_limit = 2 ^ 40
 
--- A commit of a table of one group, after so many tries that took names: it appends or compacts, its groups fit the
--- table, an append has one of them, its base is that of its names, and there are names and tries enough.
+-- A commit of a declared table, after so many tries that took names: it appends or compacts, its groups fit the table,
+-- its base is that of its names, and there are names and tries enough.
 pub record IsOwnAfter (tried : ℕ) (s : TableSchema) (own : OwnView) : Type 0 where
-  pub single : HasOneGroup s
+  pub declared : IsDeclared s
   pub made_for : IsMadeFor own.intent
   pub fits : FitsGroups s own.intent
-  pub one_group : AppendsOneGroup own.intent
   pub few : most_files own.intent ≤ file_limit
   pub same_base : own.names.base ≡ own.author.base
   pub within : length own.lost < tries

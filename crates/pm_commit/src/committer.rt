@@ -1,18 +1,18 @@
 //! The committer of a batch.
 
-ghost use Rattle.std.specs.Prelude.{◌≡◌, ◌≢◌, ◌⊎◌, ◌<◌, ◌≤◌, ◌^◌, [], List, IfErr, IfOk, OnOk, OnErr, Some};
+ghost use Rattle.std.specs.Prelude.{◌≡◌, ◌≢◌, ◌⊎◌, ◌<◌, ◌≤◌, ◌^◌, [], List, length, IfErr, IfOk, OnOk, OnErr, Some};
 ghost use Rattle.pm_values.specs.declared.refusal.Refusal.TheVariants.{Memory};
 ghost use Rattle.pm_made.specs.Refusals.{refusal_of};
 ghost use Rattle.pm_made.specs.declared.intent.Intent.TheVariants as intents;
 ghost use Rattle.pm_model_history.specs.Merge.{HistoryRow};
 ghost use Rattle.pm_store.specs.Store.{IsLater};
 ghost use Rattle.pm_write.specs.Batch.{IsBatchOf};
-ghost use Rattle.pm_append.specs.Commit.{HasOneGroup};
+ghost use Rattle.pm_schema.specs.Again.{IsDeclared};
 ghost use Rattle.pm_commit.specs.Alone.{CommitterAlone};
 ghost use Rattle.pm_commit.specs.Committer.{calls_left, most_calls, reached_at};
 ghost use Rattle.pm_commit.specs.Committer.{AreNumbered, Begins, IsCommitter, Reaches};
 ghost use Rattle.pm_commit.specs.Meaning.{CommitterMoved};
-ghost use Rattle.pm_commit.specs.Own.{new_author, new_own};
+ghost use Rattle.pm_commit.specs.Own.{group_limit, new_author, new_own};
 ghost use Rattle.pm_commit.specs.Trace.{CommitterActed};
 ghost use Rattle.pm_commit.specs.declared.phase.Phase.TheVariants as phases;
 
@@ -43,8 +43,8 @@ pub enum CommitStep {
 /// Appends the rows of a batch to a table, or commits a compaction of it, a call of the store a step.
 pub type Committer = Running<Phase>;
 
-/// The committer of a batch that isn't empty, to the table with this schema, which was just read, by a user with an
-/// identifier, and at that moment. `check` says that an earlier commit of the user is looked for.
+/// The committer of a batch that isn't empty and has few enough groups, to the table with this schema, which was just
+/// read, by a user with an identifier, and at that moment. `check` says that an earlier commit of the user is looked for.
 pub fn new_committer(
     schema: TableSchema,
     batch: Batch,
@@ -54,9 +54,10 @@ pub fn new_committer(
     names: Names,
     now_millis: i64,
 ) -> Committer
-    requires single { HasOneGroup schema }
+    requires declared { IsDeclared schema }
     requires read { (rows : List HistoryRow) × IsBatchOf schema rows batch }
     requires some { batch ≢ [] }
+    requires few { length batch ≤ group_limit }
     requires count { names.count ≤ 2 ^ 61 }
     ensures { result ≡ phases.Names (new_own batch (new_author user identifier now_millis) check names) schema }
 {
@@ -78,7 +79,7 @@ pub fn new_compaction(
     plan: Plan,
     names: Names,
 ) -> Result<Committer, Refusal>
-    requires single { HasOneGroup schema }
+    requires declared { IsDeclared schema }
     requires numbers { AreNumbered newest.live.items }
     requires based { (author.base ≡ newest.id) × (names.base ≡ newest.id) }
     requires count { names.count ≤ 2 ^ 61 }

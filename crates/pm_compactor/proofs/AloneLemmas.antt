@@ -247,7 +247,7 @@ module _ (laws : AloneLaws) (b : Beginning) where
 
   pub went-view : (asking : Asking) (m : view_phase.Phase) (answer : Answer) (new : Phase) (f : Files) (p : Past) → Goes (phases.View asking m) answer new → Stands f p
       → KnewAlone b (phases.View asking m) f p → (call : Call) → reader.next_call m ≡ Some call → Answers call answer f → Knows new f p → KnewAlone b new f p
-  went-view asking m answer new f p (to, goes, with) stands (past, (((some, count, (s, reads, built, engine)), (reading, may, none)), still, same, newest)) call is told knows =
+  went-view asking m answer new f p (to, goes, with) stands (past, (((some, count, (s, reads, declared, engine)), (reading, may, none)), still, same, newest)) call is told knows =
       let reads_to = (reads-on laws.held.read s m answer to reads goes).reads in
       let reading_to = some-at (reader.next_call m) call _ is (reader_facts.knows_next laws.held.joined laws.held.lists m answer to f p goes stands reading) told in
       let newest_to = some-at (reader.next_call m) call _ is

@@ -237,7 +237,7 @@ module _ (laws : AloneLaws) (b : Beginning) where
   calm-refused (phases.View asking m) answer refusal f p calm (inl (is, v, engine, goes)) stands (past, (known, still, same, newest)) call at told =
       forgotten refusal f p is still.same
   calm-refused (phases.View asking m) answer refusal f p calm (inr shown) stands
-      (past, (((some, count, (s, reads, built, engine)), (reading, may, none)), still, same, newest)) call at told =
+      (past, (((some, count, (s, reads, declared, engine)), (reading, may, none)), still, same, newest)) call at told =
       seen-refused refusal f p stands still.same (shown-none s m answer refusal reads shown) (shown-newest (newest_id b) m answer refusal newest shown)
       (laws.causes m call answer refusal f p stands reading at told shown)
   calm-refused (phases.Names x) (answers.Listed names) refusal f p calm (inl memory) stands (past, (known, still, more)) call at told =
@@ -277,8 +277,8 @@ module _ (laws : AloneLaws) (b : Beginning) where
       let held : IfSome (own_in m) (IsHeld (entry_of b.asking v) p) = held-in (entry_of b.asking v) m f p c.knows.0 c.knows.1 in
       let held_here : IsHeld (entry_of b.asking v) p o = subst (λ (m : commit_phase.Phase). IfSome (own_in m) (IsHeld (entry_of b.asking v) p)) putter.is held in
       let given = subst (λ (m : commit_phase.Phase). WasGiven c.given c.done m f p) putter.is c.knows.2 in
-      let (s, built, known) = held_here in
-      let all = given-own laws.held.compact.given o.intent (owns.actor_of o) o.author.base c.given p s known.is_table built given.0 in
+      let (s, plain, known) = held_here in
+      let all = given-own laws.held.compact.given o.intent (owns.actor_of o) o.author.base c.given p s known.is_table plain given.0 in
       let own_file : IsOwnFile (owns.actor_of o) o.author.base next.path =
       all-at (IsMadeBy (owns.actor_of o) o.author.base) c.done rest next (subst (AllByRecursion (IsMadeBy (owns.actor_of o) o.author.base)) c.parts all) in
       subst (λ (me : Actor). IsNamedBy me next.path) (try-actor b v c.own o putter.id c.of putter.is_try) own_file.by

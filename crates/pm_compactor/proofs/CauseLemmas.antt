@@ -435,7 +435,7 @@ handed-at laws x done given many m to call answer groups rest f p stands reading
 pub causes : CauseLaws → (m : Phase) (call : Call) (answer : Answer) (refusal : Refusal) (f : Files) (p : Past) → Stands f p → Knows m f p → next_call m ≡ Some call
     → Answers call answer f → Shown m answer refusal → MayRefuse m f p refusal
 causes laws (phases.View asking m) call answer refusal f p stands known at told (inl (is, v, engine, goes)) = subst (MayRefuseView f p) (sym is) tt
-causes laws (phases.View asking m) call answer refusal f p stands ((left, count, (s, reads, built, engine)), (reading, may, none)) at told (inr shown) =
+causes laws (phases.View asking m) call answer refusal f p stands ((left, count, (s, reads, declared, engine)), (reading, may, none)) at told (inr shown) =
     of-view f p refusal (shown-none s m answer refusal reads shown) (laws.view m call answer refusal f p stands reading at told shown)
 causes laws (phases.Names x) call (answers.Listed names) refusal f p stands known at told (inl is) = subst (MayRefuseNames x f) (sym is) tt
 causes laws (phases.Names x) call (answers.Listed names) refusal f p stands known at told (inr (path, finds, is)) =

@@ -6,10 +6,10 @@ use Rattle.pm_store.specs.declared.answer.Answer.{Answer}
 use Rattle.pm_store.specs.declared.answer.Answer.TheVariants as answers
 use Rattle.pm_store.specs.declared.answer.Made.TheVariants as creates
 use Rattle.pm_put.specs.declared.putting.CommitFile.{CommitFile}
+use Rattle.pm_schema.specs.Again.{IsDeclared}
 use Rattle.pm_schema.specs.declared.schema.TableSchema.{TableSchema}
 use Rattle.pm_scan_rows.specs.Group.{GroupRead}
 use Rattle.pm_engines.specs.TableEngine.{HasEngine}
-use Rattle.pm_append.specs.Commit.{HasOneGroup}
 use Rattle.pm_read_table.specs.Asked.{Asked}
 use Rattle.pm_read_table.specs.Reader as reader
 use Rattle.pm_read_table.specs.Reader.{OfSchema, most}
@@ -77,7 +77,7 @@ after_view = 1 + (most + 2) + (most_made + most_calls)
 abbrev after_files : ℕ
 after_files = most_made + most_calls
 
-module _ (asking : Asking) (s : TableSchema) (count : asking.names.count ≤ 2 ^ 60) (built : HasOneGroup s) (engine : HasEngine s) where
+module _ (asking : Asking) (s : TableSchema) (count : asking.names.count ≤ 2 ^ 60) (declared : IsDeclared s) (engine : HasEngine s) where
   -- a plan of a view
   plan-next : (v : View) (p : Planned) (chosen : List ChosenGroup) (n : ℕ) → Reads (views.Ready v) s → after_view < n → FitChosen s chosen → chosen ≢ []
       → AllByRecursion TakesFiles chosen → IsPlanOf asking v.schema (commit.newest_in v) chosen p → IsNext n (phases.Names p)
@@ -93,7 +93,7 @@ module _ (asking : Asking) (s : TableSchema) (count : asking.names.count ≤ 2 ^
         room = room;
       } in
       let can : CanCommit p = record {
-        single = subst HasOneGroup (sym same) built;
+        declared = subst IsDeclared (sym same) declared;
         base = ap (λ a. a.base) is.author_is ∙ sym (ap (λ (x : Newest). x.id) is.newest_is);
         based = ap (λ (x : Naming). x.base) is.names_are ∙ sym (ap (λ (x : Newest). x.id) is.newest_is);
         numbers = subst (λ (x : Newest). commit.AreNumbered x.live.items) (sym is.newest_is) reads.numbers;
@@ -122,7 +122,7 @@ module _ (asking : Asking) (s : TableSchema) (count : asking.names.count ≤ 2 ^
       (takes-files m answer v (asked_of_view asking v) (rule_of v.schema) goes order) opens
   reader-next m answer new later n goes reads left fewer below is =
       subst (IsNext n) (sym is) (record {
-        compactor = (elim left as (λ _. 0 < reader.calls_left new) [ inl ready ↦ absurd ready | inr some ↦ some ], count, (s, reads, built, engine));
+        compactor = (elim left as (λ _. 0 < reader.calls_left new) [ inl ready ↦ absurd ready | inr some ↦ some ], count, (s, reads, declared, engine));
         fewer = fewer;
         reaches = omega arith;
       })
@@ -217,8 +217,8 @@ commit-reaches (commits.Already author) quiet is = absurd quiet
 commit-reaches m quiet is = is
 
 pub next-compactor : EntriesRead → HeldGoes → (m : Phase) (answer : Answer) (later : Phase) → IsCompactor m → Goes m answer later → IsNext (calls_left m) later
-next-compactor law held (phases.View asking m) answer later (some, count, (s, reads, built, engine)) (new, goes, on) =
-    view-next asking s count built engine law m answer new later reads some goes on
+next-compactor law held (phases.View asking m) answer later (some, count, (s, reads, declared, engine)) (new, goes, on) =
+    view-next asking s count declared engine law m answer new later reads some goes on
 next-compactor law held (phases.Names p) (answers.Listed names) later is (free, starts) = names-next p later is starts
 next-compactor law held (phases.Files p m) answer later is (new, goes, on) = files-next p m answer new later is goes on
 next-compactor law held (phases.Create m next rest) (answers.Made creates.Created) later (is, quiet, some) creates =

@@ -60,7 +60,7 @@ opens-on asking v chosen (Ok later) are order folders none some = (order, folder
 -- memory ran out with a view that is ready
 pub fails-to-open : (asking : Asking) (m : view_phase.Phase) (answer : Answer) (new : view_phase.Phase) (refusal : Refusal) → IsCompactor (phases.View asking m)
     → reader.Goes m answer new → refusal ≡ refusals.Memory → reader.IsReady new → FailsToOpen (OfSchema HasEngine) m answer refusal
-fails-to-open asking m answer new refusal (some, count, (s, reads, built, engine)) goes is ready =
+fails-to-open asking m answer new refusal (some, count, (s, reads, declared, engine)) goes is ready =
     failed (OfSchema HasEngine) m answer new refusal goes (schema_stays HasEngine m answer new goes (engine-of m s reads engine)) is ready
 
 -- ---- the files that are read

@@ -62,7 +62,7 @@ begins-well p m can (plan, is_plan, begins) =
     let named = can.room.named in
     let few = can.room.few in
     let is = begun-committer p.schema p.newest p.author plan p.names m
-    (plan-own p.schema p.author plan p.names can.single (can.based ∙ sym can.base) (omega (arith, named, few))) begins in
+    (plan-own p.schema p.author plan p.names can.declared (can.based ∙ sym can.base) (omega (arith, named, few))) begins in
     let (made, is_made, allowed, first) = begins in
     record {
       committer = is.0;

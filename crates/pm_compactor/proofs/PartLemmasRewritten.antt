@@ -1,6 +1,7 @@
 -- What stays of a plan as its groups become files, and what is counted.
 use Rattle.std.proofs.Common.{◌≡◌, ℕ, suc, ◌+◌, ◌≤◌, ◌^◌, List, [], ◌∷◌, ◌++◌, length, length-append, map, refl, sym, ap, ◌∙◌, subst, arith}
 use Rattle.std.proofs.lemmas.List.{length-map}
+use Rattle.pm_schema.specs.Again.{IsDeclared}
 use Rattle.pm_schema.specs.declared.schema.TableSchema.{TableSchema}
 use Rattle.std.specs.List.{FoldsTo}
 use Rattle.pm_base.proofs.Laws.{AllByRecursion-append}
@@ -9,7 +10,6 @@ use Rattle.pm_values.specs.declared.record.Change.{Change}
 use Rattle.pm_schema.specs.Folder.{FitsPartition}
 use Rattle.pm_scan_rows.specs.Group.{GroupRead}
 use Rattle.pm_engines.specs.TableEngine.{HasEngine}
-use Rattle.pm_append.specs.Commit.{HasOneGroup}
 use Rattle.pm_made.specs.declared.newest.Author.{Author}
 use Rattle.pm_made.specs.declared.newest.Newest.{Newest}
 use Rattle.pm_choice.specs.declared.choice.ChosenGroup.{ChosenGroup}
@@ -128,7 +128,7 @@ had-room n old new became room few = record {
 
 pub still-commits : (n : ℕ) (old new : Planned) → BecameFiles n old new → CanCommit old → HasRoom new → CanCommit new
 still-commits n old new became can room = record {
-  single = subst HasOneGroup (sym became.schema) can.single;
+  declared = subst IsDeclared (sym became.schema) can.declared;
   base = ap (λ (a : Author). a.base) became.author ∙ can.base ∙ sym (ap (λ (x : Newest). x.id) became.newest);
   based = became.base ∙ can.based ∙ sym (ap (λ (x : Newest). x.id) became.newest);
   numbers = subst (λ (x : Newest). AreNumbered x.live.items) (sym became.newest) can.numbers;
@@ -167,7 +167,7 @@ told-same old new has =
 pub told-commits : (old new : Planned) → HasTold old new → CanCommit old → HasRoom new → CanCommit new
 told-commits old new has can room =
     let same = all-same old.logs.items (record old { logs = new.logs }) new has.told in record {
-      single = subst HasOneGroup (sym same.schema) can.single;
+      declared = subst IsDeclared (sym same.schema) can.declared;
       base = ap (λ (a : Author). a.base) same.author ∙ can.base ∙ sym (ap (λ (x : Newest). x.id) same.newest);
       based = same.base ∙ can.based ∙ sym (ap (λ (x : Newest). x.id) same.newest);
       numbers = subst (λ (x : Newest). AreNumbered x.live.items) (sym same.newest) can.numbers;

@@ -19,9 +19,9 @@ use Rattle.pm_machine.specs.Moves.{Changes, IsKept, Leads, Sound}
 use Rattle.pm_machine.specs.Running.{Refuses, Stops}
 use Rattle.pm_machine.proofs.PhaseFacts.{both_if}
 use Rattle.pm_model_history.specs.History.{Entry, compaction}
+use Rattle.pm_schema.specs.Again.{IsDeclared}
 use Rattle.pm_schema.specs.declared.schema.TableSchema.{TableSchema}
 use Rattle.pm_snapshot.specs.Names.{MayName}
-use Rattle.pm_append.specs.Commit.{HasOneGroup}
 use Rattle.pm_runs.specs.Succession.{Taking}
 use Rattle.pm_model_folder.specs.Changes.{Actor}
 use Rattle.pm_model_folder.specs.Ledger.{HasNamedNone, Past, Stands}
@@ -182,18 +182,18 @@ opens-with asking v (c ∷ cs) later X (x, plan, is) nothing names = names (λ n
 
 module _ (laws : SoundLaws) (f : Files) (p : Past) (stands : Stands f p) where
   -- a plan of what a view chose
-  plan-known : (asking : Asking) (s : TableSchema) (v : View) (x : Planned) → commit.Reads (views.Ready v) s → HasOneGroup s → view_meaning.Knows (views.Ready v) f p
+  plan-known : (asking : Asking) (s : TableSchema) (v : View) (x : Planned) → commit.Reads (views.Ready v) s → IsDeclared s → view_meaning.Knows (views.Ready v) f p
       → IsTableView p v → chosen_in asking v ≢ [] → MayName asking.names → HasNamedNone (actor_of asking.names) p → IsPlanIn asking v x
       → KnowsIn (phases.Names x) f p
-  plan-known asking s v x reads built (table, viewed, sought) is some may none plan =
+  plan-known asking s v x reads declared (table, viewed, sought) is some may none plan =
       let wanted : v.wanted ≡ wants.Entries = ap (λ (a : Asked). a.wanted) (asked-same (asked_of v.schema v.wanted) (newest_of s) reads.asked) in
       let since : p.since ≤ v.id = sought.reaches (subst AsksLatest (sym wanted) tt) in
       let seen = seen-at p v (asked_of_view asking v) (rule_of v.schema) is.is_view some in
-      let built_v : HasOneGroup v.schema = subst HasOneGroup (sym (ready-schema v s reads)) built in
+      let declared_v : IsDeclared v.schema = subst IsDeclared (sym (ready-schema v s reads)) declared in
       let me : actor_of x.names ≡ actor_of asking.names = ap actor_of plan.names_are in
       let begun =
       laws.plans.begins (actor_of asking.names) p asking v.schema (newest_in v) (chosen_in asking v) x plan
-      (may-begin laws.views f p v stands is since seen asking may built_v some) in
+      (may-begin laws.views f p v stands is since seen asking may declared_v some) in
       let after_origin = seen.own.known.after_origin in
       let asked : asked_for x [] [] ≡ chosen_of v.schema v.id (wanted_groups v.schema (chosen_in asking v)) [] =
       λ i. chosen_of (plan.schema_is i) (plan.newest_is i).id (wanted_groups (plan.schema_is i) (plan.left i)) [] in (
@@ -209,18 +209,18 @@ module _ (laws : SoundLaws) (f : Files) (p : Past) (stands : Stands f p) where
           },
           subst (λ (me : Actor). HasNamedNone me p) (sym me) none,
         ),
-        subst (IsChosen p) (sym asked) (taken-stood laws.views f p v stands is since seen asking built_v),
+        subst (IsChosen p) (sym asked) (taken-stood laws.views f p v stands is since seen asking declared_v),
       )
 
-  view-leads : (asking : Asking) (s : TableSchema) (to : view_phase.Phase) (new : Phase) → HasOneGroup s → MayName asking.names → HasNamedNone (actor_of asking.names) p
+  view-leads : (asking : Asking) (s : TableSchema) (to : view_phase.Phase) (new : Phase) → IsDeclared s → MayName asking.names → HasNamedNone (actor_of asking.names) p
       → commit.Reads to s → view_meaning.Knows to f p → view_reader.WithReader (λ m. phases.View asking m) (Opens asking) to new → KnowsIn new f p
-  view-leads asking s to new built may none reads reading after =
+  view-leads asking s to new declared may none reads reading after =
       with_reader (λ m. phases.View asking m) (Opens asking) (λ m. commit.Reads m s × view_meaning.Knows m f p) (KnowsIn new f p) to new after (reads, reading)
       (λ is. subst (λ (m : Phase). KnowsIn m f p) (sym is) (reading, may, none))
       (λ v has opens. opens-with asking v (chosen_in asking v) new (KnowsIn new f p) opens.2
       (λ is. subst (λ (m : Phase). KnowsIn m f p) (sym is) tt)
       (λ some x plan is. subst (λ (m : Phase). KnowsIn m f p) (sym is)
-      (plan-known asking s v x has.0 built has.1 (record { is_view = has.1.1; order = opens.0; table = has.1.0 }) some may none plan)))
+      (plan-known asking s v x has.0 declared has.1 (record { is_view = has.1.1; order = opens.0; table = has.1.0 }) some may none plan)))
 
   -- ---- the files that are read
 
@@ -323,11 +323,11 @@ module _ (laws : SoundLaws) where
   went : (m new : Phase) (answer : Answer) (f : Files) (p : Past) → Goes m answer new → Stands f p → Knows m f p
       → IfSome (next_call m) (λ call. Answers call answer f → Leads (Leaves m) (Knows new) f p (carried call f))
   went (phases.View asking r) new answer f p (to, on, after) stands (is, (reading, may, none)) =
-      let (left, count, (s, reads, built, engine)) = is in
+      let (left, count, (s, reads, declared, engine)) = is in
       let still = laws.still (phases.View asking r) answer new is (to, on, after) in
       both_if (view_reader.next_call r) _ _ _
       (λ call same next told. spared-leads (phases.View asking r) new call f p (kept f (carried call f) p (same effects.Whole)) (same effects.Whole) still
-      (view-leads laws f p stands asking s to new built may none (reads-on laws.read s r answer to reads on).reads (next told) after))
+      (view-leads laws f p stands asking s to new declared may none (reads-on laws.read s r answer to reads on).reads (next told) after))
       (view_facts.spares r f) (view_facts.knows_next laws.joined laws.lists r answer to f p on stands reading)
   went (phases.Names x) new (answers.Listed names) f p (unused, (within, is)) stands (compactor, (plan, chosen)) = λ told.
       let call : Call = calls.List (codes "manifest") in

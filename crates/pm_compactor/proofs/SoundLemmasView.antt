@@ -14,6 +14,7 @@ use Rattle.pm_values.specs.GroupOrder.{group_cmp, group_total}
 use Rattle.pm_values.specs.declared.group.Group.{Group}
 use Rattle.pm_options.specs.declared.kinds.Producer.{Producer}
 use Rattle.pm_options.specs.declared.kinds.Producer.TheVariants as producers
+use Rattle.pm_schema.specs.Again.{IsDeclared}
 use Rattle.pm_schema.specs.declared.schema.TableSchema.{TableSchema}
 use Rattle.pm_model_history.specs.History.{Entry, IsTableOf}
 use Rattle.pm_engine.specs.Covers.{IsRising, Run}
@@ -46,7 +47,6 @@ use Rattle.pm_group_files.specs.Chosen.{chosen_of as asked_of}
 use Rattle.pm_group_files.specs.Jobs.{Grouped, Wanted, whole_group}
 use Rattle.pm_group_files.specs.Meaning.{IsChosen as IsAsked, IsTableView, StoodAt}
 use Rattle.pm_group_files.proofs.ViewLemmas.{IsOfSnapshot, OneContents, OneRuns, each-found, of-snapshot, same-live}
-use Rattle.pm_append.specs.Commit.{HasOneGroup}
 use Rattle.pm_choice.specs.Choice.{chosen_of, choices, group_of, looked_by, of_pick, taken_runs, HaveLevels, IsChosen}
 use Rattle.pm_choice.specs.Question.{rule_of}
 use Rattle.pm_choice.specs.declared.choice.ChosenGroup.{ChosenGroup}
@@ -217,9 +217,9 @@ module _ (laws : ViewLaws) (f : Files) (p : Past) (v : View) (stands : Stands f 
   all-known = each-found (λ g runs. HasKnown p v g runs) v.groups.entries is.order has-known
 
   -- an actor may begin with those that are chosen
-  pub may-begin : (asking : Asking) → MayName asking.names → HasOneGroup v.schema → chosen_in asking v ≢ []
+  pub may-begin : (asking : Asking) → MayName asking.names → IsDeclared v.schema → chosen_in asking v ≢ []
       → MayBegin (actor_of asking.names) p asking v.schema (newest_in v) (chosen_in asking v)
-  may-begin asking may built some =
+  may-begin asking may declared some =
       let most = count-bound f p v.schema stands is.table in
       let to = seen.own.known.to in
       let room = may.is_maker.count_bits in
@@ -248,8 +248,8 @@ module _ (laws : ViewLaws) (f : Files) (p : Past) (v : View) (stands : Stands f 
         some = some;
         rise = laws.rising (asked_of_view asking v) (rule_of v.schema) v.groups.entries is.order;
         each = laws.each (asked_of_view asking v) (rule_of v.schema) v.groups.entries
-            (let trigger = built.declared.options.trigger.0 in omega (arith, trigger))
-            (let levels = built.declared.options.levels.0 in omega (arith, levels))
+            (let trigger = declared.options.trigger.0 in omega (arith, trigger))
+            (let levels = declared.options.levels.0 in omega (arith, levels))
             (all-weaker (λ (e : Grouped). HasKnown p v e.0 e.1) (λ e. HaveLevels (top_of (rule_of v.schema)) e.1) v.groups.entries (λ e known. known.levels) all-known);
         levels = chosen-all (λ g runs. runs ≡ map view_of (p.runs v.id g)) (asked_of_view asking v) (rule_of v.schema) v.groups.entries
             (all-weaker (λ (e : Grouped). HasKnown p v e.0 e.1) (λ (e : Grouped). e.1 ≡ map view_of (p.runs v.id e.0)) v.groups.entries (λ e known. known.same) all-known);
@@ -267,14 +267,14 @@ module _ (laws : ViewLaws) (f : Files) (p : Past) (v : View) (stands : Stands f 
   wanted-stood producers.FullCompaction c stood chosen = laws.newest p v.schema v.id c.group c.levels c.take stood chosen.choice.some
 
   -- what is wanted of them stood there
-  pub taken-stood : (asking : Asking) → HasOneGroup v.schema → IsAsked p (asked_of v.schema v.id (wanted_groups v.schema (chosen_in asking v)) [])
-  taken-stood asking built =
+  pub taken-stood : (asking : Asking) → IsDeclared v.schema → IsAsked p (asked_of v.schema v.id (wanted_groups v.schema (chosen_in asking v)) [])
+  taken-stood asking declared =
       let stood : AllByRecursion (λ (c : ChosenGroup). StoodAt p v.schema v.id (whole_group (c.group, c.levels))) (chosen_in asking v) =
       chosen-all (λ g runs. StoodAt p v.schema v.id (whole_group (g, runs))) (asked_of_view asking v) (rule_of v.schema) v.groups.entries
       (all-weaker (λ (e : Grouped). HasKnown p v e.0 e.1) (λ (e : Grouped). StoodAt p v.schema v.id (whole_group (e.0, e.1))) v.groups.entries (λ e known. known.stood) all-known) in
       let each : AllByRecursion (IsChosen (rule_of v.schema)) (chosen_in asking v) =
       laws.each (asked_of_view asking v) (rule_of v.schema) v.groups.entries
-      (let trigger = built.declared.options.trigger.0 in omega (arith, trigger)) (let levels = built.declared.options.levels.0 in omega (arith, levels))
+      (let trigger = declared.options.trigger.0 in omega (arith, trigger)) (let levels = declared.options.levels.0 in omega (arith, levels))
       (all-weaker (λ (e : Grouped). HasKnown p v e.0 e.1) (λ e. HaveLevels (top_of (rule_of v.schema)) e.1) v.groups.entries (λ e known. known.levels) all-known) in
       record {
         table = is.table;

@@ -14,9 +14,9 @@ use Rattle.pm_store.specs.declared.call.Call.{Call}
 use Rattle.pm_store.specs.declared.call.Call.TheVariants as calls
 use Rattle.pm_model_folder.specs.Changes.{Actor}
 use Rattle.pm_put.specs.declared.putting.CommitFile.{CommitFile}
+use Rattle.pm_schema.specs.Again.{IsDeclared}
 use Rattle.pm_schema.specs.declared.schema.TableSchema.{TableSchema}
 use Rattle.pm_engines.specs.TableEngine.{HasEngine}
-use Rattle.pm_append.specs.Commit.{HasOneGroup}
 use Rattle.pm_scan_rows.specs.Group.{GroupRead}
 use Rattle.pm_levels.specs.Runs.{RunView}
 use Rattle.pm_levels.specs.declared.choice.Asked.{Asked}
@@ -209,10 +209,10 @@ Shown phase other refusal = ⊥
 
 -- ---- its invariant
 
--- a commit can be made of the plan: its table has one group, its view is the base of its names, no file of the view has
+-- a commit can be made of the plan: its table is declared, its view is the base of its names, no file of the view has
 -- too great a number, and it has names
 pub record CanCommit (p : Planned) : Type 0 where
-  pub single : HasOneGroup p.schema
+  pub declared : IsDeclared p.schema
   pub base : p.author.base ≡ p.newest.id
   pub based : p.names.base ≡ p.newest.id
   pub numbers : commit.AreNumbered p.newest.live.items
@@ -250,7 +250,7 @@ NeverSearches other = Unit {0}
 
 abbrev pub IsCompactor : Phase → Type 0
 IsCompactor (phases.View asking m) = (0 < reader.calls_left m) × (asking.names.count ≤ 2 ^ 60)
-    × ((s : TableSchema) × commit.Reads m s × HasOneGroup s × HasEngine s)
+    × ((s : TableSchema) × commit.Reads m s × IsDeclared s × HasEngine s)
 IsCompactor (phases.Names p) = CanMake p × CanCommit p × (p.left.items ≢ []) × AllByRecursion TakesFiles p.left.items
 IsCompactor (phases.Files p m) = CanMake p × CanCommit p × (0 < files.calls_left m) × OfTable (λ s. s ≡ p.schema) m
     × AreLeftFor p.left.items m

@@ -2,7 +2,7 @@
 
 ghost use Rattle.std.specs.Prelude.{◌≡◌, ◌<◌, ◌≤◌, ◌^◌};
 ghost use Rattle.pm_engines.specs.TableEngine.{HasEngine};
-ghost use Rattle.pm_append.specs.Commit.{HasOneGroup};
+ghost use Rattle.pm_schema.specs.Again.{IsDeclared};
 ghost use Rattle.pm_machine.specs.Trace.{HasTrace};
 ghost use Rattle.pm_store.specs.Store.{StoreView, IsLater};
 ghost use Rattle.pm_compactor.specs.AllCalls.{asked_by, Beginning, CompactsTables, DidCompact, Ends, Has};
@@ -39,7 +39,7 @@ pub fn compact_table<F: FileStore>(
     now_millis: i64,
     store: &mut F,
 ) -> Result<Compacted, Refusal>
-    requires single { HasOneGroup schema }
+    requires declared { IsDeclared schema }
     requires engine { HasEngine schema }
     requires count { names.count ≤ 2 ^ 60 }
     ensures trace { (first : StoreView) → HasTrace (Has schema) first (F.seen store.old)

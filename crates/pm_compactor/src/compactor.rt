@@ -2,7 +2,7 @@
 
 ghost use Rattle.std.specs.Prelude.{◌≡◌, ◌<◌, ◌≤◌, ◌^◌, IfOk, OnErr, OnOk};
 ghost use Rattle.pm_engines.specs.TableEngine.{HasEngine};
-ghost use Rattle.pm_append.specs.Commit.{HasOneGroup};
+ghost use Rattle.pm_schema.specs.Again.{IsDeclared};
 ghost use Rattle.pm_store.specs.Store.{IsLater};
 ghost use Rattle.pm_commit.specs.Committer.{newest_of};
 ghost use Rattle.pm_read_table.specs.declared.phase.Phase.TheVariants as readers;
@@ -44,7 +44,7 @@ pub fn new_compactor(
     names: Names,
     now_millis: i64,
 ) -> Compactor
-    requires single { HasOneGroup schema }
+    requires declared { IsDeclared schema }
     requires engine { HasEngine schema }
     requires count { names.count ≤ 2 ^ 60 }
     ensures { result ≡ phases.View (asking_of full user names now_millis) (readers.List (newest_of schema)) }

@@ -22,7 +22,7 @@ use Rattle.pm_values.specs.declared.value.Value.{Value}
 use Rattle.pm_values.specs.declared.value.Value.TheVariants as values
 use Rattle.pm_binrow.specs.Row.{IsCell, IsRow, IsShort, is_null}
 use Rattle.pm_schema.specs.Again.{IsDeclared}
-use Rattle.pm_schema.specs.Rules.{differ, is_among, is_required, names_of, primary_holds}
+use Rattle.pm_schema.specs.Rules.{differ, is_among, is_required, names_of, partition_holds, primary_holds}
 use Rattle.pm_schema.specs.declared.schema.TableSchema.{TableSchema}
 use Rattle.pm_model_history.specs.Merge as merge
 use Rattle.pm_model_history.specs.Merge.{value_at}
@@ -30,6 +30,7 @@ use Rattle.pm_model_history.specs.Merged.{primary_of}
 use Rattle.pm_model_following.specs.Groups.{group_of}
 use Rattle.pm_run.specs.Writing.{suffix}
 use Rattle.pm_manifest.specs.Entries.{IsFile, IsFileWithin, IsKey}
+use Rattle.pm_manifest.specs.Rows.{IsFull}
 use Rattle.pm_manifest.specs.Shape.{apart_from, key_of, rest_of, shape_of, type_of}
 use Rattle.pm_manifest.proofs.ShapeLemmas.{position_none}
 
@@ -191,6 +192,27 @@ module _ (columns : List Column) (partition : List (List ℕ)) (row : Values) wh
       at first rest true = rest
       at first rest false = both-true (is_required columns name) (list_all (is_required columns) (apart_from partition names)) first rest
 
+-- the columns of a key's names are NOT NULL where all of the key are
+among-required : (columns : List Column) (names : List (List ℕ)) (name : List ℕ)
+    → list_all (is_required columns) names ≡ true → is_among names name ≡ true → is_required columns name ≡ true
+among-required columns [] name all e = absurd (true≢false (sym e))
+among-required columns (n ∷ ns) name all e =
+    let both = and_parts (is_required columns n) (list_all (is_required columns) ns) all in
+    by both.0 (λ later. among-required columns ns name both.1 later) (bytes_eq n name) refl e
+  where
+    by : is_required columns n ≡ true → (is_among ns name ≡ true → is_required columns name ≡ true) → (b : Bool)
+        → bytes_eq n name ≡ b → (b || is_among ns name) ≡ true → is_required columns name ≡ true
+    by own rest true same e = subst (λ (m : List ℕ). is_required columns m ≡ true) ((bytes_decides n name).0 same) own
+    by own rest false other e = rest e
+
+all-required : (columns : List Column) (primary names : List (List ℕ)) → list_all (is_required columns) primary ≡ true
+    → list_all (is_among primary) names ≡ true → list_all (is_required columns) names ≡ true
+all-required columns primary [] required among = refl
+all-required columns primary (name ∷ names) required among =
+    let both = and_parts (is_among primary name) (list_all (is_among primary) names) among in
+    both-true (is_required columns name) (list_all (is_required columns) names)
+    (among-required columns primary name required both.0) (all-required columns primary names required both.1)
+
 -- ---- the key of a row of a group
 
 -- a key that a row of the group has
@@ -227,6 +249,28 @@ module _ (s : TableSchema) (g : Group) (key : Values) (declared : IsDeclared s) 
     },
     sym has.own ∙ sym (key-parts s.columns s.partition has.row s.primary) ∙ ap (λ (g : Group). key_of (shape_of s).places g.partition rest) has.group,
   )
+
+  -- the names of the partition are of the primary key
+  among : list_all (is_among s.primary) s.partition ≡ true
+  among =
+      let partition : partition_holds s ≡ true = declared.rules.1.1.1.0 in
+      let left_over = list_any (λ (name : List ℕ). not (is_among s.partition name)) s.primary in
+      (and_parts (list_all (is_among s.primary) s.partition) (differ s.partition && left_over) partition).0
+
+  part-filled : IsFilled (map (type_of s.columns) s.partition) (merge.key_of (map (index_in s.columns) s.partition) has.row)
+  part-filled =
+      filled-values s.columns has.row s.partition has.fits declared.rules.1.0
+      (all-required s.columns s.primary s.partition required among)
+
+  -- a manifest can have the group's values of the partition, where they are short
+  pub partition-can-be : IsShort (shape_of s).partition g.partition → IsFull (shape_of s).partition g.partition
+  partition-can-be short =
+      let same : merge.key_of (map (index_in s.columns) s.partition) has.row ≡ g.partition =
+      ap (λ (g : Group). g.partition) has.group in record {
+        typed = subst (IsRow (map (type_of s.columns) s.partition)) same part-filled.typed;
+        short = short;
+        full = ap (list_any is_null) (sym same) ∙ part-filled.full;
+      }
 
 -- ---- the name of a file
 

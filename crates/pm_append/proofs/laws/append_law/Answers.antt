@@ -29,5 +29,6 @@ returns c = published (record {
   logs = c.batch_law.ensures.logs;
   quiet = c.batch_law.ensures.quiet;
   empty = c.batch_law.ensures.empty;
+  buckets = c.batch_law.ensures.buckets;
   change = record { same = c.by_key_law.ensures.same; input = c.input_law.ensures; quiet = c.quiet_law.ensures };
 }) c.made_law.ensures c.commit_law.ensures

@@ -8,7 +8,7 @@ use Rattle.pm_commit.proofs.committer.new_compaction.Goals as goal
 pub make-requires : goal.make-requires
 make-requires c =
     subst (λ (own : OwnView). MayMake own (record { schema = c.args.schema; newest = c.args.newest })) (sym c.of_plan-own.ensures) (record {
-      own_of = plan-own c.args.schema c.args.author c.args.plan c.args.names c.requires.single
+      own_of = plan-own c.args.schema c.args.author c.args.plan c.args.names c.requires.declared
           (c.requires.based.1 ∙ sym c.requires.based.0) c.requires.count;
       numbers = c.requires.numbers;
     })
@@ -18,7 +18,7 @@ new-requires c =
     let begun : Begins c.args.schema c.args.newest c.args.author c.args.plan c.args.names c.in-Ok.phase =
     subst (λ (own : OwnView). Makes own (record { schema = c.args.schema; newest = c.args.newest }) (Ok c.in-Ok.phase)) c.of_plan-own.ensures c.in-Ok.ensures in
     let is = begun-committer c.args.schema c.args.newest c.args.author c.args.plan c.args.names c.in-Ok.phase
-    (plan-own c.args.schema c.args.author c.args.plan c.args.names c.requires.single (c.requires.based.1 ∙ sym c.requires.based.0) c.requires.count) begun in
+    (plan-own c.args.schema c.args.author c.args.plan c.args.names c.requires.declared (c.requires.based.1 ∙ sym c.requires.based.0) c.requires.count) begun in
     is.0
 
 pub returns-in-Ok-clause-begins : goal.returns-in-Ok-clause-begins

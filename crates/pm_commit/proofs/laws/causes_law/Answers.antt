@@ -1,6 +1,5 @@
 use Rattle.pm_commit.proofs.CauseLemmas.{caused}
 use Rattle.pm_commit.proofs.Facts.{Laws}
-use Rattle.pm_commit.proofs.StillLemmas.{own-files-of}
 use Rattle.pm_commit.proofs.laws.causes_law.Goals as goal
 
 pub returns : goal.returns
@@ -24,6 +23,6 @@ returns c =
         change = c.ready_law.ensures.change;
         compacts = c.compaction_law.ensures;
       };
-      own_files = own-files-of c.own_files_law.ensures;
+      own_files = c.own_files_law.ensures;
     } in
     caused laws c.causes_law.ensures

@@ -1,6 +1,5 @@
 use Rattle.pm_commit.proofs.AloneLemmas.{alone-moves}
 use Rattle.pm_commit.proofs.Facts.{Laws, sound}
-use Rattle.pm_commit.proofs.StillLemmas.{own-files-of}
 use Rattle.pm_commit.proofs.TraceLemmas.{recounts, recounts-later}
 use Rattle.pm_commit.proofs.laws.machine_law.Goals as goal
 
@@ -25,7 +24,7 @@ returns-clause-sound c =
         change = c.ready_law.ensures.change;
         compacts = c.compaction_law.ensures;
       };
-      own_files = own-files-of c.own_files_law.ensures;
+      own_files = c.own_files_law.ensures;
     } in
     sound laws
 
@@ -50,7 +49,7 @@ returns-clause-alone c = λ old new before after result stepped b.
         change = c.ready_law.ensures.change;
         compacts = c.compaction_law.ensures;
       };
-      own_files = own-files-of c.own_files_law.ensures;
+      own_files = c.own_files_law.ensures;
     } in
     alone-moves laws c.causes_law.ensures c.path_law.ensures b stepped
 

@@ -1,4 +1,3 @@
-use Rattle.pm_commit.proofs.StillLemmas.{own-files-of}
 use Rattle.pm_compactor.proofs.AloneLemmas.{AloneLaws}
 use Rattle.pm_compactor.proofs.AloneLemmasStep.{alone-moves}
 use Rattle.pm_compactor.proofs.laws.alone_law.Goals as goal
@@ -25,7 +24,7 @@ returns c = λ old new before after result stepped b.
           change = c.ready_law.ensures.change;
           compacts = c.compaction_law.ensures;
         };
-        own_files = own-files-of c.own_files_law.ensures;
+        own_files = c.own_files_law.ensures;
       };
       causes = c.causes_law-2.ensures;
       parts = c.path_law.ensures;
