@@ -2,18 +2,14 @@
 //! first of them.
 
 ghost use Rattle.std.specs.Prelude.{◌<◌, IfOk};
-ghost use Rattle.pm_schema.specs.Again.{IsDeclared};
-ghost use Rattle.pm_engines.specs.TableEngine.{HasEngine};
-ghost use Rattle.pm_append.specs.Commit.{HasOneGroup};
 ghost use Rattle.pm_compactor.specs.Compactor.{calls_left};
 
-use crate::writers::{SESSION, TURNS, begin, judge, make_table, say_table, say_writer, take_turn};
+use crate::writers::{SESSION, TURNS, begin, make_table, say_table, say_writer, take_turn};
 use pm_base::Txt;
 use pm_cases::Case;
 use pm_compactor::{CompactStep, Compactor, compact_step, new_compactor};
 use pm_engines::declared_law;
 use pm_read_schema::read_table_schema;
-use pm_schema::TableSchema;
 use pm_store::FileStore;
 use pm_values::{Names, Refusal};
 use std::alloc::Global;
@@ -80,7 +76,8 @@ fn compactor_of<F: FileStore>(
     ensures { IfOk result (λ c. 0 < calls_left c) }
 {
     let user = Txt::from_str(alloc, "c")?;
-    match read_table(alloc, store) {
+    declared_law();
+    match read_table_schema(alloc, store) {
         Ok(schema) => {
             let mut session = [0; 16];
             session[15] = SESSION;
@@ -89,31 +86,6 @@ fn compactor_of<F: FileStore>(
         }
         Err(refusal) => {
             drop(user);
-            Err(refusal)
-        }
-    }
-}
-
-/// The schema of the table, which is built.
-fn read_table<F: FileStore>(alloc: Global, store: &mut F) -> Result<TableSchema, Refusal>
-    ensures built { IfOk result HasOneGroup }
-    ensures engine { IfOk result HasEngine }
-{
-    let schema = read_table_schema(alloc, store)?;
-    judged(alloc, schema)
-}
-
-/// The schema, of a table that is built.
-fn judged(alloc: Global, schema: TableSchema) -> Result<TableSchema, Refusal>
-    requires { IsDeclared schema }
-    ensures built { IfOk result HasOneGroup }
-    ensures engine { IfOk result HasEngine }
-{
-    declared_law();
-    match judge(alloc, &schema) {
-        Ok(()) => Ok(schema),
-        Err(refusal) => {
-            drop(schema);
             Err(refusal)
         }
     }

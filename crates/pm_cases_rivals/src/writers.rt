@@ -1,18 +1,16 @@
 //! Two writers on one real folder, each through a store of its own, a call of the store in turn.
 
-ghost use Rattle.std.specs.Prelude.{◌<◌, ◌≢◌, [], List, IfOk, OnOk};
+ghost use Rattle.std.specs.Prelude.{◌<◌, ◌≤◌, ◌≢◌, [], List, length, IfOk};
 ghost use Rattle.pm_model_history.specs.Merge.{HistoryRow};
 ghost use Rattle.pm_schema.specs.Again.{IsDeclared};
-ghost use Rattle.pm_draft.specs.Built as draft;
 ghost use Rattle.pm_write.specs.Batch.{IsBatchOf};
-ghost use Rattle.pm_append.specs.Commit.{HasOneGroup};
 ghost use Rattle.pm_commit.specs.Committer.{calls_left};
+ghost use Rattle.pm_commit.specs.Own.{group_limit};
 
 use crate::command::run_command;
 use pm_base::Txt;
 use pm_cases::Case;
 use pm_commit::{CommitStep, Committer, commit_step, new_committer};
-use pm_draft::{built_law, judge_built};
 use pm_engines::{TableEngine, declared_law};
 use pm_input::{InputLines, LIMITS, read_lines, refusal_of};
 use pm_io::MemSource;
@@ -20,7 +18,7 @@ use pm_read_schema::read_table_schema;
 use pm_schema::TableSchema;
 use pm_store::FileStore;
 use pm_values::{Names, Refusal};
-use pm_write::Batch;
+use pm_write::{Batch, batch_law};
 use std::alloc::Global;
 
 /// The draft of the table.
@@ -133,7 +131,7 @@ fn committer_of<F: FileStore>(
     ensures { IfOk result (λ c. 0 < calls_left c) }
 {
     let user = Txt::from_str(alloc, "w")?;
-    let schema = match read_built(alloc, store) {
+    let schema = match read_table_schema(alloc, store) {
         Ok(schema) => schema,
         Err(refusal) => {
             drop(user);
@@ -155,40 +153,11 @@ fn committer_of<F: FileStore>(
     }
 }
 
-/// The schema of the table, which is built.
-fn read_built<F: FileStore>(alloc: Global, store: &mut F) -> Result<TableSchema, Refusal>
-    ensures { IfOk result HasOneGroup }
-{
-    let schema = read_table_schema(alloc, store)?;
-    built_of(alloc, schema)
-}
-
-/// The schema, of a table that is built.
-fn built_of(alloc: Global, schema: TableSchema) -> Result<TableSchema, Refusal>
-    requires { IsDeclared schema }
-    ensures { IfOk result HasOneGroup }
-{
-    match judge(alloc, &schema) {
-        Ok(()) => Ok(schema),
-        Err(refusal) => {
-            drop(schema);
-            Err(refusal)
-        }
-    }
-}
-
-/// Refuses a schema of a table that isn't built.
-pub(crate) fn judge(alloc: Global, schema: &TableSchema) -> Result<(), Refusal>
-    ensures { OnOk result (draft.IsBuilt schema.now) }
-{
-    built_law();
-    judge_built(alloc, schema)
-}
-
 /// The batch of a row that the table takes.
 fn batch_of(alloc: Global, schema: &TableSchema, row: &str) -> Result<Batch, Refusal>
-    requires { HasOneGroup schema.now }
+    requires { IsDeclared schema.now }
     ensures read { IfOk result (λ batch. (rows : List HistoryRow) × IsBatchOf schema.now rows batch) }
+    ensures few { IfOk result (λ batch. length batch ≤ group_limit) }
     ensures some { IfOk result (λ batch. batch ≢ []) }
 {
     let lines = lines_of(alloc, row)?;
@@ -202,9 +171,11 @@ fn batch_of(alloc: Global, schema: &TableSchema, row: &str) -> Result<Batch, Ref
 
 /// The batch of the rows that the table takes of lines.
 fn read_batch(alloc: Global, schema: &TableSchema, lines: InputLines) -> Result<Batch, Refusal>
-    requires { HasOneGroup schema.now }
-    ensures { IfOk result (λ batch. (rows : List HistoryRow) × IsBatchOf schema.now rows batch) }
+    requires { IsDeclared schema.now }
+    ensures read { IfOk result (λ batch. (rows : List HistoryRow) × IsBatchOf schema.now rows batch) }
+    ensures few { IfOk result (λ batch. length batch ≤ group_limit) }
 {
+    batch_law();
     declared_law();
     let engine = TableEngine::of_schema(alloc, schema)?;
     let batch = Batch::read(alloc, schema, &engine, lines);

@@ -1,5 +1,5 @@
 -- Laws of `write`: what is so of its input, of its calls, and of a history.
-use Rattle.std.proofs.Common.{◌≡◌, ◌≢◌, ◌⊎◌, inl, inr, ℕ, ◌+◌, ◌-◌, ◌≤◌, ◌==◌, ◌++◌, Bool, true, false, if◌then◌else◌, List, [], ◌∷◌, Option, None, Some, IfSome, IsSome, IsSomeAnd, Result, Ok, Err, refl, sym, ap, ◌∙◌, subst}
+use Rattle.std.proofs.Common.{◌≡◌, ◌≢◌, ◌⊎◌, inl, inr, ℕ, ◌+◌, ◌-◌, ◌≤◌, ◌==◌, ◌++◌, Bool, true, false, if◌then◌else◌, List, [], ◌∷◌, length, Option, None, Some, IfSome, IsSome, IsSomeAnd, Result, Ok, Err, refl, sym, ap, ◌∙◌, subst, arith}
 use Rattle.std.specs.FinMap as map
 use Rattle.std.specs.List.{AllByRecursion}
 use Rattle.std.specs.Result.{result_err}
@@ -41,11 +41,13 @@ use Rattle.pm_create.specs.Making.{LeavesFiles}
 use Rattle.pm_read_schema.specs.AllCalls.{DidRead, HasFiles, Stay, ReadsTables}
 use Rattle.pm_draft.specs.Built.{IsBuilt, unbuilt}
 use Rattle.pm_write.specs.Batch.{Groups, IsBatchOf, ReadsBatch}
-use Rattle.pm_write.specs.Taken.{all_taken, no_room, taken_at, taken_by, taken_in, taken_of}
+use Rattle.pm_group_rows.specs.Limit.{exceeds_partition}
+use Rattle.pm_write.specs.Taken.{all_taken, long_partition, no_room, taken_at, taken_by, taken_in, taken_of}
 use Rattle.pm_commit.specs.AllCalls as commit
 use Rattle.pm_commit.specs.AllCalls.{AddsAlone, AppendsTables, DidAppend, HasBorne, MayBegin, MayStart, NamesNone}
 use Rattle.pm_commit.specs.Alone.{Beginning, GivesReason, IsUnchanged, WasUsed, with_entry}
 use Rattle.pm_commit.specs.Meaning.{AddsOwn, path_after}
+use Rattle.pm_commit.specs.Own.{group_limit}
 use Rattle.pm_commit.specs.declared.all_calls.Appended.{Appended}
 use Rattle.pm_commit.specs.declared.all_calls.Appended.TheVariants as appends
 use Rattle.pm_command_write.specs.Input.{HasLines, MayRefuseInput, RefusesInput}
@@ -73,15 +75,19 @@ by_take s by_index.RefuseAll is = cc
 
 module _ (fits : FitLaw) (s : TableSchema) where
   one-row : (row : HistoryRow) → Fits s.columns row.1 → (v : Verdict) → verdict_on s row.0 ≡ v → (number : ℕ) (rows : List HistoryRow)
-      → taken_by v number row ≡ Ok rows → AllByRecursion (IsRowOf s) rows
-  one-row row fit Take is number rows taken =
-      let same : row ∷ [] ≡ rows = cc in
-      subst (AllByRecursion (IsRowOf s)) same (record { fits = fit; taken = by_take s (verdict s row.0) is }, tt)
+      → taken_by s v number row ≡ Ok rows → AllByRecursion (IsRowOf s) rows
+  one-row row fit Take is number rows taken = by (exceeds_partition s row.1) taken
+    where
+      by : (long : Bool) → (if long then Err long_partition else Ok (row ∷ [])) ≡ Ok rows → AllByRecursion (IsRowOf s) rows
+      by true taken = cc
+      by false taken =
+          let same : row ∷ [] ≡ rows = cc in
+          subst (AllByRecursion (IsRowOf s)) same (record { fits = fit; taken = by_take s (verdict s row.0) is }, tt)
   one-row row fit Ignore is number rows taken = let same : [] ≡ rows = cc in subst (AllByRecursion (IsRowOf s)) same tt
   one-row row fit (Refuse column) is number rows taken = cc
 
   of-row : (number : ℕ) (bytes : List ℕ) (read : Result HistoryRow Fault) → row_of s.columns bytes ≡ read → (rows : List HistoryRow)
-      → (judged s.columns number read >>= (λ (row : HistoryRow). taken_by (verdict_on s row.0) number row)) ≡ Ok rows → AllByRecursion (IsRowOf s) rows
+      → (judged s.columns number read >>= (λ (row : HistoryRow). taken_by s (verdict_on s row.0) number row)) ≡ Ok rows → AllByRecursion (IsRowOf s) rows
   of-row number bytes (Ok row) is rows taken = one-row row (fits s.columns bytes row is) (verdict_on s row.0) refl number rows taken
   of-row number bytes (Err fault) is rows taken = cc
 
@@ -233,14 +239,18 @@ of-judged columns number (Ok row) e is = cc
 of-judged columns number (Err fault) e is =
     subst IsOfLines (let same : refusals.BadLine number fault.0 (faulty_column columns fault.0 fault.1) ≡ e = cc in same) tt
 
-of-taken : (v : Verdict) (number : ℕ) (row : HistoryRow) (e : Refusal) → taken_by v number row ≡ Err e → IsOfLines e
-of-taken Take number row e is = cc
-of-taken Ignore number row e is = cc
-of-taken (Refuse column) number row e is = subst IsOfLines (let same : refusals.Retraction number column ≡ e = cc in same) tt
+of-taken : (s : TableSchema) (v : Verdict) (number : ℕ) (row : HistoryRow) (e : Refusal) → taken_by s v number row ≡ Err e → IsOfLines e
+of-taken s Take number row e is = by (exceeds_partition s row.1) is
+  where
+    by : (long : Bool) → (if long then Err long_partition else Ok (row ∷ [])) ≡ Err e → IsOfLines e
+    by true is = subst IsOfLines (let same : long_partition ≡ e = cc in same) tt
+    by false is = cc
+of-taken s Ignore number row e is = cc
+of-taken s (Refuse column) number row e is = subst IsOfLines (let same : refusals.Retraction number column ≡ e = cc in same) tt
 
 of-one : (s : TableSchema) (l : ℕ × List ℕ) (read : Result HistoryRow Refusal) → row_at s.columns l ≡ read → (e : Refusal)
-    → (read >>= (λ (row : HistoryRow). taken_by (verdict_on s row.0) l.0 row)) ≡ Err e → IsOfLines e
-of-one s l (Ok row) at e is = of-taken (verdict_on s row.0) l.0 row e is
+    → (read >>= (λ (row : HistoryRow). taken_by s (verdict_on s row.0) l.0 row)) ≡ Err e → IsOfLines e
+of-one s l (Ok row) at e is = of-taken s (verdict_on s row.0) l.0 row e is
 of-one s l (Err r) at e is = of-judged s.columns l.0 (row_of s.columns l.1) e (at ∙ (let same : r ≡ e = cc in ap Err same))
 
 of-line-refused : (s : TableSchema) (room : ℕ) (l : ℕ × List ℕ) (e : Refusal) → taken_at s room l ≡ Err e → IsOfLines e
@@ -534,6 +544,15 @@ lines_serve start w lines before after answer read (made, trace, kept, prints) =
 pub taken_rows : (s : TableSchema) (lines : Lines) (batch : Groups) → ReadsBatch s (Ok batch) (all_taken s lines)
     → (rows : List HistoryRow) × IsBatchOf s rows batch
 taken_rows s lines batch (rows, taken, is) = (rows, is)
+
+-- a batch that was read has few enough groups
+pub few_read : ((s : TableSchema) (rows : List HistoryRow) (batch : Groups) → IsBatchOf s rows batch → length batch ≤ length rows)
+    → ((s : TableSchema) (lines : Lines) (rows : List HistoryRow) → all_taken s lines ≡ Ok rows → length rows ≤ limits.rows)
+    → (s : TableSchema) (lines : Lines) (batch : Groups) → ReadsBatch s (Ok batch) (all_taken s lines) → length batch ≤ group_limit
+few_read few room s lines batch (rows, taken, is) =
+    let low = few s rows batch is in
+    let high = room s lines rows taken in
+    omega (arith, low, high)
 
 -- what the law of batches says
 abbrev pub EmptyLaw : Type 0

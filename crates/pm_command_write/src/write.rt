@@ -1,7 +1,8 @@
 //! The command `write`: append the rows of the input to the table as one commit.
 
-ghost use Rattle.std.specs.Prelude.{◌≡◌, ◌≢◌, ℕ, List, [], IfOk, OnOk, None, Some, Ok};
+ghost use Rattle.std.specs.Prelude.{◌≡◌, ◌≢◌, ◌≤◌, ℕ, List, [], length, IfOk, OnOk, None, Some, Ok};
 ghost use Rattle.std.specs.Result.{result_err};
+ghost use Rattle.pm_commit.specs.Own.{group_limit};
 ghost use Rattle.pm_commit.specs.declared.phase.Phase.TheVariants as phases;
 ghost use Rattle.pm_draft.specs.Built.{IsBuilt};
 ghost use Rattle.pm_model_history.specs.Merge.{HistoryRow};
@@ -142,6 +143,7 @@ fn committer_of(
     requires built { IsBuilt schema }
     requires read { (rows : List HistoryRow) × IsBatchOf schema rows batch }
     requires some { batch ≢ [] }
+    requires few { length batch ≤ group_limit }
     ensures committer { IfOk result (λ committer. committer ≡ phases.Names
         (commit_of start.now writer batch) schema) }
     ensures may { OnOk result (MayName (naming start.now.session 0 0)) }
