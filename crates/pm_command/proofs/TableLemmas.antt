@@ -1,7 +1,6 @@
 -- Facts on files that stay, and on why a table is refused, for all commands.
-use Rattle.std.proofs.Common.{codes, decimal, ◌≡◌, ◌⊎◌, inl, inr, ℕ, suc, ◌+◌, ◌≤◌, ◌==◌, List, [], ◌∷◌, length, if◌then◌else◌, Bool, true, false, Option, None, Some, IsSome, IfSome, IsSomeAnd, refl, sym, subst, ◌∙◌, arith}
+use Rattle.std.proofs.Common.{◌≡◌, ℕ, suc, ◌+◌, ◌≤◌, List, length, if◌then◌else◌, Option, None, Some, IsSome, IsSomeAnd, refl, sym, subst, ◌∙◌, arith}
 use Rattle.std.specs.FinMap as map
-use Rattle.std.specs.Option.{option_or}
 use Rattle.pm_values.specs.declared.refusal.Refusal.{Refusal}
 use Rattle.pm_values.specs.declared.refusal.Refusal.TheVariants as refusals
 use Rattle.pm_store.specs.declared.call.Op.{Op}
@@ -10,21 +9,17 @@ use Rattle.pm_store.specs.Images.{Extends}
 use Rattle.pm_store.specs.Store.{StoreView}
 use Rattle.pm_store.proofs.ImageLaws.{Extends-weaker}
 use Rattle.pm_machine.specs.Trace.{Event, HasTrace}
-use Rattle.pm_model_history.specs.History.{History, IsTableOf, no_table, table}
-use Rattle.pm_schema.specs.declared.schema.TableSchema.{TableSchema}
+use Rattle.pm_model_history.specs.History.{History, no_table, table}
 use Rattle.pm_snapshot.specs.Names.{greatest}
 use Rattle.pm_model_folder.specs.Folder.{Folder, KeepsConsumers}
-use Rattle.pm_model_folder.specs.Ledger.{Past, count_of}
+use Rattle.pm_model_folder.specs.Ledger.{count_of}
 use Rattle.pm_model_folder.specs.Meaning.{HasSnapshotAt}
 use Rattle.pm_model_folder.specs.Paths.{snapshot_path}
 use Rattle.pm_model_folder.proofs.SettledLemmas.{same-keeps}
 use Rattle.pm_create.specs.Making.{LeavesFiles}
 use Rattle.pm_read_schema.specs.AllCalls.{HasFiles, IsCaused}
-use Rattle.pm_read_schema.specs.Beside.{AnyPast, IsTold, Learns}
-use Rattle.pm_read_schema.proofs.BesideFacts.{learns-weaker}
-use Rattle.pm_draft.specs.Built.{unbuilt, unbuilt_bucket, unbuilt_partition}
 use Rattle.pm_command.specs.Outside.{ConsumersRest, HaveSame, ImagesRest, Rests, next_path}
-use Rattle.pm_command.specs.Table.{IsToldOfTable, LearnsRefusal, MayRefuse}
+use Rattle.pm_command.specs.Table.{MayRefuse}
 
 pub trace_weaker : (P Q : List Event → Type 0) → ((own : List Event) → P own → Q own) → (before after : StoreView) → HasTrace P before after → HasTrace Q before after
 trace_weaker P Q weaker before after (own, did, traces) = (own, weaker own did, traces)
@@ -103,69 +98,3 @@ caused h first after refusals.Memory is = tt
 caused h first after refusals.NoTable is = is
 caused h first after (refusals.StoreFault path) is = is
 caused h first after e is = absurd is
-
--- what isn't built is a text that isn't supported
-abbrev pub IsText : Refusal → Type 0
-IsText (refusals.Unsupported what text) = Unit {0}
-IsText other = ⊥
-
-or_text : (o p : Option Refusal) → IfSome o IsText → IfSome p IsText → IfSome (option_or o p) IsText
-or_text None p first next = next
-or_text (Some e) p first next = first
-
-bucket_text : (n : ℕ) → IfSome (unbuilt_bucket n) IsText
-bucket_text n = by (n == 1)
-  where
-    by : (one : Bool) → IfSome (if one then None else Some (refusals.Unsupported (codes "bucket") (decimal n))) IsText
-    by true = tt
-    by false = tt
-
-partition_text : (names : List (List ℕ)) → IfSome (unbuilt_partition names) IsText
-partition_text [] = tt
-partition_text (name ∷ names) = tt
-
-unbuilt_text : (s : TableSchema) → IfSome (unbuilt s) IsText
-unbuilt_text s =
-    or_text (unbuilt_bucket s.options.bucket) (unbuilt_partition s.partition) (bucket_text s.options.bucket) (partition_text s.partition)
-
-pub unbuilt_is_text : (s : TableSchema) (e : Refusal) → unbuilt s ≡ Some e → IsText e
-unbuilt_is_text s e why = subst (λ (o : Option Refusal). IfSome o IsText) why (unbuilt_text s)
-
-unbuilt_caused : (h : History) (first after : StoreView) (s : TableSchema) (e : Refusal) → IsTableOf s h → unbuilt s ≡ Some e → MayRefuse h first after e
-unbuilt_caused h first after s e is why = at_refusal e why (unbuilt_is_text s e why)
-  where
-    at_refusal : (e : Refusal) → unbuilt s ≡ Some e → IsText e → MayRefuse h first after e
-    at_refusal (refusals.Unsupported what text) why text_is = (s, is, why)
-    at_refusal other why text_is = absurd text_is
-
-pub judged_caused : (h : History) (first after : StoreView) (s : TableSchema) (e : Refusal) → IsTableOf s h
-    → (e ≡ refusals.Memory) ⊎ (unbuilt s ≡ Some e) → MayRefuse h first after e
-judged_caused h first after s e is (inl memory) = subst (MayRefuse h first after) (sym memory) tt
-judged_caused h first after s e is (inr why) = unbuilt_caused h first after s e is why
-
--- ---- what a refusal tells, whatever others do
-
--- what any reader tells
-told_table : (e : Refusal) (f : Files) (p : Past) → IsTold e f p → IsToldOfTable e f p
-told_table (refusals.Unsupported what text) f p told = absurd told
-told_table e f p told = told
-
-pub read_told : (had : Files → Past → Type 0) (e : Refusal) (before after : StoreView) → Learns had (IsTold e) before after
-    → Learns had (IsToldOfTable e) before after
-read_told had e before after = learns-weaker had had (IsTold e) (IsToldOfTable e) before after (λ f p known. known) (λ f p stands told. told_table e f p told)
-
--- or that the table isn't built
-unbuilt_told : (s : TableSchema) (e : Refusal) (f : Files) (p : Past) → IsText e → unbuilt s ≡ Some e → IsTableOf s p.history → IsToldOfTable e f p
-unbuilt_told s (refusals.Unsupported what text) f p is why of = (s, of, why)
-unbuilt_told s other f p is why of = absurd is
-
-judge_told : (s : TableSchema) (e : Refusal) (f : Files) (p : Past) → (e ≡ refusals.Memory) ⊎ (unbuilt s ≡ Some e) → IsTableOf s p.history
-    → IsToldOfTable e f p
-judge_told s e f p (inl memory) of = subst (λ (e : Refusal). IsToldOfTable e f p) (sym memory) tt
-judge_told s e f p (inr why) of = unbuilt_told s e f p (unbuilt_is_text s e why) why of
-
-pub judged_told : (s : TableSchema) (e : Refusal) (before after : StoreView) → (e ≡ refusals.Memory) ⊎ (unbuilt s ≡ Some e)
-    → Learns AnyPast (λ f p. IsTableOf s p.history) before after → LearnsRefusal e before after
-judged_told s e before after why =
-    learns-weaker AnyPast AnyPast (λ f p. IsTableOf s p.history) (IsToldOfTable e) before after (λ f p known. known)
-    (λ f p stands of. judge_told s e f p why of)

@@ -2,12 +2,10 @@
 //! a table before it does anything of its own (`specs/Table.antt`).
 #![tactic(auto)]
 
-mod judging;
 mod own;
 mod printing;
 mod start;
 
-pub use judging::judge;
 pub use own::{own_names, own_user};
 pub use printing::{print, print_snapshot};
 pub use start::Start;

@@ -1,5 +1,5 @@
 -- Laws of `consumers`: what is so of its calls, and of a history.
-use Rattle.std.proofs.Common.{◌≡◌, ◌≢◌, ◌⊎◌, inl, inr, ℕ, ◌≤◌, List, Vec, Option, None, Some, Ok, Err, refl, sym, subst}
+use Rattle.std.proofs.Common.{◌≡◌, ◌≢◌, inl, inr, ℕ, ◌≤◌, List, Vec, Option, None, Some, Ok, Err, refl, sym, subst}
 use Rattle.std.specs.Global.{Global}
 use Rattle.std.specs.Result.{result_err}
 use Rattle.pm_values.specs.declared.refusal.Refusal.{Refusal}
@@ -9,6 +9,7 @@ use Rattle.pm_store.specs.Files.{Files}
 use Rattle.pm_store.specs.Store.{StoreView, at_first_own}
 use Rattle.pm_machine.specs.Trace.{Event, HasTrace}
 use Rattle.pm_model_history.specs.History.{History, IsTableOf, no_table}
+use Rattle.pm_schema.specs.Again.{IsDeclared}
 use Rattle.pm_schema.specs.declared.schema.TableSchema.{TableSchema}
 use Rattle.pm_model_folder.specs.Folder.{Folder}
 use Rattle.pm_consumer_files.specs.declared.lines.NamedConsumer.{NamedConsumer}
@@ -16,34 +17,28 @@ use Rattle.pm_read_schema.specs.AllCalls.{DidRead, HasFiles, ReadsTables, Stay}
 use Rattle.pm_read_schema.specs.Beside.{AnyPast, IsTold, Learns}
 use Rattle.pm_read_schema.proofs.BesideFacts.{learns-then, learns-weaker}
 use Rattle.pm_read_latest.specs.AllCalls.{IsCaused}
-use Rattle.pm_draft.specs.Built.{IsBuilt, unbuilt}
 use Rattle.pm_consumers.specs.AllCalls as lister
 use Rattle.pm_consumers.specs.AllCalls.{AreConsumersOf, DidList, Listing}
 use Rattle.pm_command.specs.Outside.{Outside, Prints}
-use Rattle.pm_command.specs.Table.{IsToldOfTable, MayRefuse}
-use Rattle.pm_command.proofs.TableLemmas.{trace_weaker, files_of, leaves_of, rests_of, images_rest, caused, judged_caused, judged_told, read_told}
+use Rattle.pm_command.specs.Table.{MayRefuse}
+use Rattle.pm_command.proofs.TableLemmas.{trace_weaker, files_of, leaves_of, rests_of, images_rest, caused}
 use Rattle.pm_command_consumers.specs.Consumers.{AfterSchema, AnswersHistory, DidConsumers, IsListed, Keeps, KeepsHistories, ListsConsumers, ListsTables, MadeBeside, MakesLines, ShowsListing, text_of}
 use Rattle.pm_command_consumers.proofs.JoinLemmas.{after_schema, read_then, rose_wider, stay_join}
 
 -- ---- its calls
 
 pub read_refused : (e : Refusal) (before after : StoreView) → HasTrace (DidRead (Err e)) before after → HasTrace (DidConsumers (Err e)) before after
-read_refused e before after = trace_weaker (DidRead (Err e)) (DidConsumers (Err e)) (λ own shows. inl (inl shows)) before after
-
--- the schema isn't built, or memory ran out for saying so
-pub judge_refused : (s : TableSchema) (e : Refusal) (before after : StoreView) → (e ≡ refusals.Memory) ⊎ (unbuilt s ≡ Some e)
-    → HasTrace (DidRead (Ok s)) before after → HasTrace (DidConsumers (Err e)) before after
-judge_refused s e before after why = trace_weaker (DidRead (Ok s)) (DidConsumers (Err e)) (λ own has. inl (inr (s, why, has))) before after
+read_refused e before after = trace_weaker (DidRead (Err e)) (DidConsumers (Err e)) (λ own shows. inl shows) before after
 
 after_weaker : (P Q : List Event → Type 0) → ((own : List Event) → P own → Q own) → (own : List Event) → AfterSchema P own → AfterSchema Q own
-after_weaker P Q weaker own (s, earlier, later, built, has, next, at) = (s, earlier, later, built, has, weaker later next, at)
+after_weaker P Q weaker own (s, earlier, later, declared, has, next, at) = (s, earlier, later, declared, has, weaker later next, at)
 
-pub listed_trace : (s : TableSchema) (result : Listing) (before middle after : StoreView) → IsBuilt s → HasTrace (DidRead (Ok s)) before middle
+pub listed_trace : (s : TableSchema) (result : Listing) (before middle after : StoreView) → IsDeclared s → HasTrace (DidRead (Ok s)) before middle
     → HasTrace (DidList result) middle after → HasTrace (DidConsumers result) before after
-listed_trace s (Ok consumers) before middle after built has listed = after_schema s (DidList (Ok consumers)) before middle after built has listed
-listed_trace s (Err e) before middle after built has listed =
+listed_trace s (Ok consumers) before middle after declared has listed = after_schema s (DidList (Ok consumers)) before middle after declared has listed
+listed_trace s (Err e) before middle after declared has listed =
     trace_weaker (AfterSchema (DidList (Err e))) (DidConsumers (Err e)) (λ own did. inr (after_weaker (DidList (Err e)) (ShowsListing e) (λ later shows. inl shows) own did))
-    before after (after_schema s (DidList (Err e)) before middle after built has listed)
+    before after (after_schema s (DidList (Err e)) before middle after declared has listed)
 
 -- memory may run out for the text
 memory_trace : (consumers : Vec NamedConsumer Global) (before after : StoreView) → HasTrace (DidConsumers (Ok consumers)) before after
@@ -56,11 +51,7 @@ memory_trace consumers before after =
 -- ---- what they show, whatever others do
 
 pub read_beside : (e : Refusal) (before after : StoreView) → Learns AnyPast (IsTold e) before after → MadeBeside (Err e) before after
-read_beside e before after = read_told AnyPast e before after
-
-pub judge_beside : (s : TableSchema) (e : Refusal) (before after : StoreView) → (e ≡ refusals.Memory) ⊎ (unbuilt s ≡ Some e)
-    → Learns AnyPast (λ f p. IsTableOf s p.history) before after → MadeBeside (Err e) before after
-judge_beside s e before after = judged_told s e before after
+read_beside e before after told = told
 
 -- of the schema's table no more is asked than that a history stands
 stood : (s : TableSchema) (before after : StoreView) → Learns AnyPast (λ f p. IsTableOf s p.history) before after → Learns AnyPast AnyPast before after
@@ -71,12 +62,12 @@ pub listed_beside : (s : TableSchema) (result : Listing) (before middle after : 
 listed_beside s (Ok consumers) before middle after learned beside =
     learns-then AnyPast AnyPast AnyPast before middle after (stood s before middle learned) beside
 listed_beside s (Err e) before middle after learned told =
-    read_told AnyPast e before after (learns-then AnyPast AnyPast (IsTold e) before middle after (stood s before middle learned) told)
+    learns-then AnyPast AnyPast (IsTold e) before middle after (stood s before middle learned) told
 
 -- where memory runs out for the text
 memory_beside : (consumers : Vec NamedConsumer Global) (before after : StoreView) → MadeBeside (Ok consumers) before after → MadeBeside (Err refusals.Memory) before after
 memory_beside consumers before after =
-    learns-weaker AnyPast AnyPast AnyPast (IsToldOfTable refusals.Memory) before after (λ f p known. known) (λ f p stands known. tt)
+    learns-weaker AnyPast AnyPast AnyPast (IsTold refusals.Memory) before after (λ f p known. known) (λ f p stands known. tt)
 
 -- ---- files that stay
 
@@ -100,14 +91,6 @@ read_keeps e before after reads = λ alone h stands.
     let at = files_of (λ f. Folder f h) first stands in
     let read = reads alone at.0 h at.1 at.2 in
     keeps h at.0 first after (Err e) at.1 at.2 read.files (caused h first after e read.cause)
-
-pub judge_keeps : (s : TableSchema) (e : Refusal) (before after : StoreView) → (e ≡ refusals.Memory) ⊎ (unbuilt s ≡ Some e)
-    → ReadsTables before after (Ok s) → KeepsHistories before after (Err e)
-judge_keeps s e before after why reads = λ alone h stands.
-    let first = at_first_own before after in
-    let at = files_of (λ f. Folder f h) first stands in
-    let read = reads alone at.0 h at.1 at.2 in
-    keeps h at.0 first after (Err e) at.1 at.2 read.files (judged_caused h first after s e read.schema why)
 
 cause_of : (h : History) (first middle after : StoreView) (e : Refusal) → first.faults ≤ middle.faults → IsCaused middle after e → MayRefuse h first after e
 cause_of h first middle after refusals.Memory wider is = tt

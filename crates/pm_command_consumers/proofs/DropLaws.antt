@@ -1,7 +1,6 @@
 -- Laws of `consumers --drop`: what is so of its calls, and of a history.
 use Rattle.std.proofs.Common.{◌≡◌, ◌≢◌, ◌⊎◌, inl, inr, ℕ, ◌≤◌, List, [], Bool, true, false, Option, None, Some, IsSomeAnd, Result, Ok, Err, refl, sym, subst, ◌∙◌, arith}
 use Rattle.std.specs.FinMap as map
-use Rattle.std.specs.List.{AllByRecursion}
 use Rattle.std.specs.Result.{result_err}
 use Rattle.pm_values.specs.declared.refusal.Refusal.{Refusal}
 use Rattle.pm_values.specs.declared.refusal.Refusal.TheVariants as refusals
@@ -13,8 +12,10 @@ use Rattle.pm_store.specs.declared.call.Op.{Op}
 use Rattle.pm_store.proofs.ImageLaws.{Extends-trans, Extends-weaker}
 use Rattle.pm_machine.specs.Trace.{HasTrace}
 use Rattle.pm_model_history.specs.History.{Entry, History, IsTableOf, no_table, table}
+use Rattle.pm_schema.specs.Again.{IsDeclared}
 use Rattle.pm_schema.specs.declared.schema.TableSchema.{TableSchema}
-use Rattle.pm_model_folder.specs.Changes.{Actor, HavePlainNames, IsPlain}
+use Rattle.pm_partitions.proofs.Plain.{plain_names}
+use Rattle.pm_model_folder.specs.Changes.{Actor, HavePlainNames}
 use Rattle.pm_model_folder.specs.Folder.{Folder, HaveSettled}
 use Rattle.pm_model_folder.specs.Paths.{consumer_path}
 use Rattle.pm_create.specs.Making.{LeavesFiles}
@@ -26,10 +27,9 @@ use Rattle.pm_move_consumer.specs.DropperAllCalls.{AreOthersOf, DidDrop, DropsNa
 use Rattle.pm_move_consumer.specs.DropperMeaning.{drop_by}
 use Rattle.pm_move_consumer.specs.MoverAllCalls.{OthersRest, StandsWith}
 use Rattle.pm_move_consumer.specs.MoverMeaning.{HasPlainTable}
-use Rattle.pm_draft.specs.Built.{IsBuilt, unbuilt}
 use Rattle.pm_command.specs.Outside.{Outside, Prints}
 use Rattle.pm_command.specs.Table.{MayRefuse}
-use Rattle.pm_command.proofs.TableLemmas.{trace_weaker, files_of, leaves_of, leaves_weaker, caused, judged_caused, judged_told, read_told}
+use Rattle.pm_command.proofs.TableLemmas.{trace_weaker, files_of, leaves_of, leaves_weaker, caused}
 use Rattle.pm_command_consumers.specs.Consumers.{AfterSchema}
 use Rattle.pm_command_consumers.specs.Drop.{AnswersHistory, DidRemove, Drops, DropsTables, EndsBy, IsRemoved, ItEnds, Keeps, KeepsHistories, MadeBeside, MakesOf, StandsWithout, WasThere, text_of}
 use Rattle.pm_command_consumers.proofs.JoinLemmas.{after_schema, read_then, rose_wider}
@@ -37,42 +37,30 @@ use Rattle.pm_command_consumers.proofs.JoinLemmas.{after_schema, read_then, rose
 -- ---- its calls
 
 pub read_refused : (name : List ℕ) (e : Refusal) (before after : StoreView) → HasTrace (DidRead (Err e)) before after → HasTrace (DidRemove name (Err e)) before after
-read_refused name e before after = trace_weaker (DidRead (Err e)) (DidRemove name (Err e)) (λ own shows. inl (inl shows)) before after
+read_refused name e before after = trace_weaker (DidRead (Err e)) (DidRemove name (Err e)) (λ own shows. inl shows) before after
 
--- the schema isn't built, or memory ran out for saying so
-pub judge_refused : (name : List ℕ) (s : TableSchema) (e : Refusal) (before after : StoreView) → (e ≡ refusals.Memory) ⊎ (unbuilt s ≡ Some e)
-    → HasTrace (DidRead (Ok s)) before after → HasTrace (DidRemove name (Err e)) before after
-judge_refused name s e before after why = trace_weaker (DidRead (Ok s)) (DidRemove name (Err e)) (λ own has. inl (inr (s, why, has))) before after
-
-pub removed_trace : (name : List ℕ) (s : TableSchema) (made : Result Bool Refusal) (before middle after : StoreView) → IsBuilt s
+pub removed_trace : (name : List ℕ) (s : TableSchema) (made : Result Bool Refusal) (before middle after : StoreView) → IsDeclared s
     → HasTrace (DidRead (Ok s)) before middle → HasTrace (DidDrop name made) middle after → HasTrace (DidRemove name made) before after
-removed_trace name s (Ok was_there) before middle after built has did = after_schema s (DidDrop name (Ok was_there)) before middle after built has did
-removed_trace name s (Err e) before middle after built has did =
+removed_trace name s (Ok was_there) before middle after declared has did = after_schema s (DidDrop name (Ok was_there)) before middle after declared has did
+removed_trace name s (Err e) before middle after declared has did =
     trace_weaker (AfterSchema (DidDrop name (Err e))) (DidRemove name (Err e)) (λ own shows. inr shows) before after
-    (after_schema s (DidDrop name (Err e)) before middle after built has did)
+    (after_schema s (DidDrop name (Err e)) before middle after declared has did)
 
 -- ---- whatever others do
 
-plain_names : (s : TableSchema) → IsBuilt s → HavePlainNames s
-plain_names s built = subst (AllByRecursion IsPlain) (sym built.partition) tt
-
 pub read_beside : (name : List ℕ) (e : Refusal) (before after : StoreView) → Learns AnyPast (IsTold e) before after → MadeBeside name (Err e) before after
-read_beside name e before after told = inl (read_told AnyPast e before after told)
+read_beside name e before after told = inl told
 
-pub judge_beside : (name : List ℕ) (s : TableSchema) (e : Refusal) (before after : StoreView) → (e ≡ refusals.Memory) ⊎ (unbuilt s ≡ Some e)
-    → Learns AnyPast (λ f p. IsTableOf s p.history) before after → MadeBeside name (Err e) before after
-judge_beside name s e before after why learned = inl (judged_told s e before after why learned)
-
-learned_plain : (s : TableSchema) (before middle : StoreView) → IsBuilt s → Learns AnyPast (λ f p. IsTableOf s p.history) before middle
+learned_plain : (s : TableSchema) (before middle : StoreView) → IsDeclared s → Learns AnyPast (λ f p. IsTableOf s p.history) before middle
     → Learns AnyPast (λ f p. HasPlainTable p.history) before middle
-learned_plain s before middle built =
+learned_plain s before middle declared =
     learns-weaker AnyPast AnyPast (λ f p. IsTableOf s p.history) (λ f p. HasPlainTable p.history) before middle (λ f p is. is)
-    (λ f p stands is. (s, is, plain_names s built))
+    (λ f p stands is. (s, is, plain_names s declared))
 
-pub removed_beside : (name : List ℕ) (s : TableSchema) (made : Result Bool Refusal) (before middle after : StoreView) → IsBuilt s
+pub removed_beside : (name : List ℕ) (s : TableSchema) (made : Result Bool Refusal) (before middle after : StoreView) → IsDeclared s
     → Learns AnyPast (λ f p. IsTableOf s p.history) before middle → ((me : Actor) → DropsOn (drop_by me name) made middle after) → MadeBeside name made before after
-removed_beside name s (Ok was_there) before middle after built learned drops = (middle, learned_plain s before middle built learned, drops)
-removed_beside name s (Err e) before middle after built learned drops = inr (middle, learned_plain s before middle built learned, drops)
+removed_beside name s (Ok was_there) before middle after declared learned drops = (middle, learned_plain s before middle declared learned, drops)
+removed_beside name s (Err e) before middle after declared learned drops = inr (middle, learned_plain s before middle declared learned, drops)
 
 -- ---- what its calls do to histories
 
@@ -119,14 +107,6 @@ read_keeps name e before after reads = λ alone h names stands.
     let at = files_of (λ f. Folder f h × HaveSettled f h names) first stands in
     let read = reads alone at.0 h at.1 at.2.0 in
     stay_keeps name h names at.0 first after e at.1 at.2.0 at.2.1 read.files (caused h first after e read.cause)
-
-pub judge_keeps : (name : List ℕ) (s : TableSchema) (e : Refusal) (before after : StoreView) → (e ≡ refusals.Memory) ⊎ (unbuilt s ≡ Some e)
-    → ReadsTables before after (Ok s) → KeepsHistories name before after (Err e)
-judge_keeps name s e before after why reads = λ alone h names stands.
-    let first = at_first_own before after in
-    let at = files_of (λ f. Folder f h × HaveSettled f h names) first stands in
-    let read = reads alone at.0 h at.1 at.2.0 in
-    stay_keeps name h names at.0 first after e at.1 at.2.0 at.2.1 read.files (judged_caused h first after s e read.schema why)
 
 no_other : (name : List ℕ) (names : List (List ℕ)) → AreOthersOf name names []
 no_other name names other c = absurd (omega (arith, c.1))
@@ -188,21 +168,21 @@ abbrev DropsAt : List ℕ → Result Bool Refusal → StoreView → StoreView �
 DropsAt name made first after = (s : TableSchema) (entries : List Entry) (names : List (List ℕ)) (f : Files) → HasFiles f first → StandsWith s entries names f
     → HavePlainNames s → DropsName name s entries names f first after made
 
-table_keeps : (name : List ℕ) (s : TableSchema) (h : History) (names : List (List ℕ)) (f : Files) (first middle after : StoreView) (made : Result Bool Refusal) → IsBuilt s
+table_keeps : (name : List ℕ) (s : TableSchema) (h : History) (names : List (List ℕ)) (f : Files) (first middle after : StoreView) (made : Result Bool Refusal) → IsDeclared s
     → IsTableOf s h → HasFiles f first → Folder f h → HaveSettled f h names → Stay f first middle → first.faults ≤ middle.faults → DropsAt name made middle after
     → Keeps name h names first after made
-table_keeps name s no_table names f first middle after made built is has folder settled stay wider drops = absurd is
-table_keeps name s (table u entries) names f first middle after made built is has folder settled stay wider drops =
+table_keeps name s no_table names f first middle after made declared is has folder settled stay wider drops = absurd is
+table_keeps name s (table u entries) names f first middle after made declared is has folder settled stay wider drops =
     drop_keeps name u entries names f first middle after made has folder settled stay wider
-    (drops u entries names f stay.here (record { folder = folder; settled = settled }) (subst HavePlainNames (sym is) (plain_names s built)))
+    (drops u entries names f stay.here (record { folder = folder; settled = settled }) (subst HavePlainNames (sym is) (plain_names s declared)))
 
-pub removed_keeps : (name : List ℕ) (s : TableSchema) (made : Result Bool Refusal) (before middle after : StoreView) → IsBuilt s → HasTrace (DidRead (Ok s)) before middle
+pub removed_keeps : (name : List ℕ) (s : TableSchema) (made : Result Bool Refusal) (before middle after : StoreView) → IsDeclared s → HasTrace (DidRead (Ok s)) before middle
     → ReadsTables before middle (Ok s) → HasTrace (DidDrop name made) middle after → dropper.DropsNames name middle after made → KeepsHistories name before after made
-removed_keeps name s made before middle after built did reads does drops = λ alone h names stands.
+removed_keeps name s made before middle after declared did reads does drops = λ alone h names stands.
     let first = at_first_own before after in
     let at = files_of (λ f. Folder f h × HaveSettled f h names) first stands in
     let read = read_then (DropsAt name made) (DidDrop name made) s at.0 h before middle after alone at.1 at.2.0 did reads does drops in
-    table_keeps name s h names at.0 first middle after made built read.schema at.1 at.2.0 at.2.1 read.stay read.wider read.next
+    table_keeps name s h names at.0 first middle after made declared read.schema at.1 at.2.0 at.2.1 read.stay read.wider read.next
 
 -- ---- and what was printed
 

@@ -16,16 +16,16 @@ use Rattle.pm_read_schema.specs.AllCalls.{DidRead, HasFiles, ReadsTables, Stay}
 use Rattle.pm_read_schema.specs.Trace as reader
 use Rattle.pm_read_schema.specs.declared.phase.Phase.TheVariants as readers
 use Rattle.pm_read_schema.proofs.LeadLemmas.{none_last}
+use Rattle.pm_schema.specs.Again.{IsDeclared}
 use Rattle.pm_schema.specs.declared.schema.TableSchema.{TableSchema}
-use Rattle.pm_draft.specs.Built.{IsBuilt}
 use Rattle.pm_command_consumers.specs.Consumers.{AfterSchema}
 
 -- ---- together
 
-pub after_schema : (s : TableSchema) (Next : List Event → Type 0) (first middle after : StoreView) → IsBuilt s → HasTrace (DidRead (Ok s)) first middle
+pub after_schema : (s : TableSchema) (Next : List Event → Type 0) (first middle after : StoreView) → IsDeclared s → HasTrace (DidRead (Ok s)) first middle
     → HasTrace Next middle after → HasTrace (AfterSchema Next) first after
-after_schema s Next first middle after built (earlier, has, trace) (later, next, rest) =
-    (earlier ++ later, (s, earlier, later, built, has, next, refl), Traces-join earlier later first middle after trace rest)
+after_schema s Next first middle after declared (earlier, has, trace) (later, next, rest) =
+    (earlier ++ later, (s, earlier, later, declared, has, next, refl), Traces-join earlier later first middle after trace rest)
 
 -- ---- the moment of the first call
 

@@ -1,56 +1,20 @@
 -- Calls that read a schema, and those after them, show one answer where the later ones do, but that memory may run out.
-use Rattle.std.proofs.Common.{◌≡◌, ◌⊎◌, inl, inr, List, [], ◌∷◌, ◌++◌, Option, None, Some, refl, sym, ap, subst, ◌∙◌, append-nil}
+use Rattle.std.proofs.Common.{◌≡◌, ◌⊎◌, inl, inr, List, [], ◌∷◌, ◌++◌, refl, sym, ap, subst, ◌∙◌, append-nil}
 use Rattle.pm_values.specs.declared.refusal.Refusal.{Refusal}
 use Rattle.pm_values.specs.declared.refusal.Refusal.TheVariants as refusals
 use Rattle.pm_store.specs.declared.call.Call.{Call}
 use Rattle.pm_machine.specs.Step.{path_of}
 use Rattle.pm_machine.specs.Trace.{Event, faulted}
-use Rattle.pm_schema.specs.declared.schema.TableSchema.{TableSchema}
-use Rattle.pm_draft.specs.Built.{IsBuilt, unbuilt}
-use Rattle.pm_draft.proofs.BuiltLemmas.{built-none}
-use Rattle.pm_read_schema.proofs.LeadLemmas.{Fails, Leads, failed_not, one_end, one_failed, one_lead, tail_same}
+use Rattle.pm_read_schema.proofs.LeadLemmas.{failed_not, one_end, one_failed, one_lead, tail_same}
+use Rattle.pm_read_schema.specs.Trace as reader
 use Rattle.pm_read_schema.proofs.OneLemmas as schema
-use Rattle.pm_command_consumers.specs.Consumers.{AfterSchema, ShowsSchema}
+use Rattle.pm_command_consumers.specs.Consumers.{AfterSchema}
 
 -- ---- the schema
 
--- it is refused here, or its table isn't built
-abbrev IsRefusedAt : Refusal → schema.Place → Type 0
-IsRefusedAt e (schema.over other) = e ≡ other
-IsRefusedAt e (schema.ready s) = unbuilt s ≡ Some e
-IsRefusedAt e m = ⊥
-
-refused_ends : (e : Refusal) (m : schema.Place) → IsRefusedAt e m → schema.IsEnd m
-refused_ends e (schema.over other) is = tt
-refused_ends e (schema.ready s) is = tt
-refused_ends e m is = absurd is
-
-one_some : (e d : Refusal) → ◌≡◌ {A = Option Refusal} (Some e) (Some d) → e ≡ d
-one_some e d is = cc
-
-one_refused : (e d : Refusal) (m : schema.Place) → IsRefusedAt e m → IsRefusedAt d m → e ≡ d
-one_refused e d (schema.over other) is was = is ∙ sym was
-one_refused e d (schema.ready s) is was = one_some e d (sym is ∙ was)
-one_refused e d m is was = absurd is
-
-built_not : (s : TableSchema) (e : Refusal) → IsBuilt s → IsRefusedAt e (schema.ready s) → ⊥
-built_not s e built why = let clash : ◌≡◌ {A = Option Refusal} None (Some e) = sym (built-none s built) ∙ why in cc
-
--- memory ran out; or the last call failed; or they lead where it is refused
-data IsShown (e : Refusal) (own : List Event) : Type 0 where
-  of_memory : e ≡ refusals.Memory → IsShown e own
-  of_failure : Fails e own → IsShown e own
-  of_place : (m : schema.Place) → Leads schema.Goes own schema.listing m → IsRefusedAt e m → IsShown e own
-
-of_reader : (e : Refusal) (own : List Event) → schema.IsShown e own → IsShown e own
-of_reader e own (schema.of_memory memory) = of_memory memory
-of_reader e own (schema.of_failure fails) = of_failure fails
-of_reader e own (schema.of_place lead) = of_place (schema.over e) lead refl
-
-is_shown : (e : Refusal) (own : List Event) → ShowsSchema e own → IsShown e own
-is_shown e own (inl shows) = of_reader e own (schema.is_shown e own shows)
-is_shown e own (inr (s, inl memory, has)) = of_memory memory
-is_shown e own (inr (s, inr why, has)) = of_place (schema.ready s) (schema.ready_lead s own has) why
+-- two refusals of one place
+over_same : (e d : Refusal) → schema.over e ≡ schema.over d → e ≡ d
+over_same e d is = cc
 
 -- ---- lists
 
@@ -78,7 +42,7 @@ pub record IsStage {R : Type 0} (refused : Refusal → R) (Next : R → List Eve
 
 -- the schema was refused, or the calls after it show the answer
 abbrev pub ShowsOne : {R : Type 0} → (Refusal → R) → (R → List Event → Type 0) → R → List Event → Type 0
-ShowsOne refused Next r own = ((e : Refusal) × (r ≡ refused e) × ShowsSchema e own) ⊎ AfterSchema (Next r) own
+ShowsOne refused Next r own = ((e : Refusal) × (r ≡ refused e) × reader.Shows e own) ⊎ AfterSchema (Next r) own
 
 module _ {R : Type 0} (refused : Refusal → R) (Next : R → List Event → Type 0) (Same : R → R → Type 0) (stage : IsStage refused Next Same) where
   same_refused : (e d : Refusal) (one other : R) → one ≡ refused e → other ≡ refused d → e ≡ d → Same one other
@@ -92,27 +56,29 @@ module _ {R : Type 0} (refused : Refusal → R) (Next : R → List Event → Typ
   memory_second d one other was memory = inr (inr (was ∙ ap refused memory))
 
   -- both refuse the schema
-  both_refused : (e d : Refusal) (own : List Event) (one other : R) → one ≡ refused e → other ≡ refused d → IsShown e own → IsShown d own
+  both_refused : (e d : Refusal) (own : List Event) (one other : R) → one ≡ refused e → other ≡ refused d → schema.IsShown e own → schema.IsShown d own
       → Same one other ⊎ IsMemory refused one other
-  both_refused e d own one other is was (of_memory memory) denied = memory_first e one other is memory
-  both_refused e d own one other is was (of_failure fails) (of_memory memory) = memory_second d one other was memory
-  both_refused e d own one other is was (of_failure fails) (of_failure failed) = inl (same_refused e d one other is was (one_failed e d own fails failed))
-  both_refused e d own one other is was (of_failure fails) (of_place m lead refused_at) = absurd (failed_not e own fails (schema.leads_answered own m lead))
-  both_refused e d own one other is was (of_place m lead refused_at) (of_memory memory) = memory_second d one other was memory
-  both_refused e d own one other is was (of_place m lead refused_at) (of_failure failed) = absurd (failed_not d own failed (schema.leads_answered own m lead))
-  both_refused e d own one other is was (of_place m lead refused_at) (of_place n led denied_at) =
-      let same = one_lead schema.Goes schema.are_one own schema.listing m n lead led in
-      inl (same_refused e d one other is was (one_refused e d n (subst (IsRefusedAt e) same refused_at) denied_at))
+  both_refused e d own one other is was (schema.of_memory memory) denied = memory_first e one other is memory
+  both_refused e d own one other is was (schema.of_failure fails) (schema.of_memory memory) = memory_second d one other was memory
+  both_refused e d own one other is was (schema.of_failure fails) (schema.of_failure failed) = inl (same_refused e d one other is was (one_failed e d own fails failed))
+  both_refused e d own one other is was (schema.of_failure fails) (schema.of_place lead) =
+      absurd (failed_not e own fails (schema.leads_answered own (schema.over d) lead))
+  both_refused e d own one other is was (schema.of_place lead) (schema.of_memory memory) = memory_second d one other was memory
+  both_refused e d own one other is was (schema.of_place lead) (schema.of_failure failed) =
+      absurd (failed_not d own failed (schema.leads_answered own (schema.over e) lead))
+  both_refused e d own one other is was (schema.of_place lead) (schema.of_place led) =
+      let same = one_lead schema.Goes schema.are_one own schema.listing (schema.over e) (schema.over d) lead led in
+      inl (same_refused e d one other is was (over_same e d same))
 
   -- the schema is refused by calls that go on after it
-  apart : (e : Refusal) (own : List Event) (r : R) → IsShown e own → AfterSchema (Next r) own
+  apart : (e : Refusal) (own : List Event) (r : R) → schema.IsShown e own → AfterSchema (Next r) own
       → (e ≡ refusals.Memory) ⊎ ((r ≡ refused e) ⊎ (r ≡ refused refusals.Memory))
-  apart e own r (of_memory memory) after = inl memory
-  apart e own r (of_place m lead refused_at) (s, earlier, later, built, has, next, at) =
-      let end = one_end schema.Goes schema.IsEnd schema.are_one schema.ends_stay earlier own later [] schema.listing (schema.ready s) m
-      (sym at ∙ sym (append-nil own)) (schema.ready_lead s earlier has) tt lead (refused_ends e m refused_at) in
-      absurd (built_not s e built (subst (IsRefusedAt e) (sym end.1) refused_at))
-  apart e own r (of_failure (before, call, is, failed_at)) (s, earlier, later, built, has, next, at) =
+  apart e own r (schema.of_memory memory) after = inl memory
+  apart e own r (schema.of_place lead) (s, earlier, later, declared, has, next, at) =
+      let end = one_end schema.Goes schema.IsEnd schema.are_one schema.ends_stay earlier own later [] schema.listing (schema.ready s) (schema.over e)
+      (sym at ∙ sym (append-nil own)) (schema.ready_lead s earlier has) tt lead tt in
+      absurd (schema.over_not e s (sym end.1))
+  apart e own r (schema.of_failure (before, call, is, failed_at)) (s, earlier, later, declared, has, next, at) =
       elim (suffix earlier later before (faulted call) (sym at ∙ failed_at)) as (λ _. (e ≡ refusals.Memory) ⊎ ((r ≡ refused e) ⊎ (r ≡ refused refusals.Memory))) [
         | inl none ↦
             let whole : own ≡ earlier = at ∙ ap (λ (later : List Event). earlier ++ later) none ∙ append-nil earlier in
@@ -125,7 +91,7 @@ module _ {R : Type 0} (refused : Refusal → R) (Next : R → List Event → Typ
             ]
       ]
 
-  first_refused : (e : Refusal) (own : List Event) (one other : R) → one ≡ refused e → IsShown e own → AfterSchema (Next other) own
+  first_refused : (e : Refusal) (own : List Event) (one other : R) → one ≡ refused e → schema.IsShown e own → AfterSchema (Next other) own
       → Same one other ⊎ IsMemory refused one other
   first_refused e own one other is shown after =
       elim (apart e own other shown after) as (λ _. Same one other ⊎ IsMemory refused one other) [
@@ -136,7 +102,7 @@ module _ {R : Type 0} (refused : Refusal → R) (Next : R → List Event → Typ
         ]
       ]
 
-  second_refused : (d : Refusal) (own : List Event) (one other : R) → other ≡ refused d → IsShown d own → AfterSchema (Next one) own
+  second_refused : (d : Refusal) (own : List Event) (one other : R) → other ≡ refused d → schema.IsShown d own → AfterSchema (Next one) own
       → Same one other ⊎ IsMemory refused one other
   second_refused d own one other was shown after =
       elim (apart d own one shown after) as (λ _. Same one other ⊎ IsMemory refused one other) [
@@ -148,10 +114,10 @@ module _ {R : Type 0} (refused : Refusal → R) (Next : R → List Event → Typ
       ]
 
   pub one_of_all : (one other : R) (own : List Event) → ShowsOne refused Next one own → ShowsOne refused Next other own → Same one other ⊎ IsMemory refused one other
-  one_of_all one other own (inl (e, is, shows)) (inl (d, was, denied)) = both_refused e d own one other is was (is_shown e own shows) (is_shown d own denied)
-  one_of_all one other own (inl (e, is, shows)) (inr after) = first_refused e own one other is (is_shown e own shows) after
-  one_of_all one other own (inr after) (inl (d, was, denied)) = second_refused d own one other was (is_shown d own denied) after
-  one_of_all one other own (inr (s, earlier, later, built, has, next, at)) (inr (t, first, more, also, had, behind, there)) =
+  one_of_all one other own (inl (e, is, shows)) (inl (d, was, denied)) = both_refused e d own one other is was (schema.is_shown e own shows) (schema.is_shown d own denied)
+  one_of_all one other own (inl (e, is, shows)) (inr after) = first_refused e own one other is (schema.is_shown e own shows) after
+  one_of_all one other own (inr after) (inl (d, was, denied)) = second_refused d own one other was (schema.is_shown d own denied) after
+  one_of_all one other own (inr (s, earlier, later, declared, has, next, at)) (inr (t, first, more, also, had, behind, there)) =
       let end = one_end schema.Goes schema.IsEnd schema.are_one schema.ends_stay earlier first later more schema.listing (schema.ready s) (schema.ready t)
       (sym at ∙ there) (schema.ready_lead s earlier has) tt (schema.ready_lead t first had) tt in
       stage.one one other more (subst (Next one) end.2 next) behind

@@ -8,6 +8,7 @@ use Rattle.pm_io.specs.Sink.{SinkView, SinkFailed, TookPrefix}
 use Rattle.pm_store.specs.Store.{StoreView, FromFirst}
 use Rattle.pm_machine.specs.Trace.{Event, HasTrace}
 use Rattle.pm_model_history.specs.History.{History, no_table}
+use Rattle.pm_schema.specs.Again.{IsDeclared}
 use Rattle.pm_schema.specs.declared.schema.TableSchema.{TableSchema}
 use Rattle.pm_model_folder.specs.Folder.{Folder}
 use Rattle.pm_consumer_files.specs.Lines.{consumers_text}
@@ -19,35 +20,30 @@ use Rattle.pm_read_schema.specs.declared.phase.Phase.TheVariants as readers
 use Rattle.pm_consumers.specs.AllCalls.{AreConsumersOf, Listing}
 use Rattle.pm_consumers.specs.Trace as lister
 use Rattle.pm_consumers.specs.Trace.{HasListed}
-use Rattle.pm_draft.specs.Built.{IsBuilt}
 use Rattle.pm_command.specs.Outside.{ImagesRest, Outside, Prints, Rests}
-use Rattle.pm_command.specs.Table.{EndsAtSchema, LearnsRefusal, MayRefuse}
+use Rattle.pm_command.specs.Table.{LearnsRefusal, MayRefuse}
 
 -- ---- its calls
 
--- the schema of a table that is built was read, and then these calls came
+-- the schema was read, and then these calls came
 abbrev pub AfterSchema : (List Event → Type 0) → List Event → Type 0
-AfterSchema Next own = (s : TableSchema) × (earlier later : List Event) × IsBuilt s
+AfterSchema Next own = (s : TableSchema) × (earlier later : List Event) × IsDeclared s
     × reader.Did (readers.Ready s) earlier × Next later × (own ≡ earlier ++ later)
-
--- they show why no schema was read, or end with it
-abbrev pub ShowsSchema : Refusal → List Event → Type 0
-ShowsSchema e own = reader.Shows e own ⊎ EndsAtSchema e own
 
 -- the calls of a listing show a refusal, or memory ran out for the text of what was listed
 abbrev pub ShowsListing : Refusal → List Event → Type 0
 ShowsListing e own = lister.Shows e own
     ⊎ ((e ≡ refusals.Memory) × (consumers : List NamedConsumer) × HasListed consumers own)
 
--- Its calls of the store, by what it made: the consumers of a table that is built, each as its file said when it was
--- read; or they show a refusal, of the schema or of the listing.
+-- Its calls of the store, by what it made: the table's consumers, each as its file said when it was read; or they show
+-- why no schema was read, or a refusal of the listing.
 abbrev pub DidConsumers : Listing → List Event → Type 0
 DidConsumers (Ok consumers) own = AfterSchema (HasListed consumers.items) own
-DidConsumers (Err e) own = ShowsSchema e own ⊎ AfterSchema (ShowsListing e) own
+DidConsumers (Err e) own = reader.Shows e own ⊎ AfterSchema (ShowsListing e) own
 
 -- Whatever others do before, between and after its calls, a refusal tells what is so at the call that shows it: that
--- there is no table, or none that is built. No file is called damaged. Of the consumers that are listed no more is
--- known than that a history stands.
+-- there is no table. No file is called damaged. Of the consumers that are listed no more is known than that a history
+-- stands.
 abbrev pub MadeBeside : Listing → StoreView → StoreView → Type 0
 MadeBeside (Ok consumers) before after = Learns AnyPast AnyPast before after
 MadeBeside (Err e) before after = LearnsRefusal e before after

@@ -18,6 +18,7 @@ use Rattle.pm_model_folder.specs.Folder.{Folder, HaveSettled}
 use Rattle.pm_model_folder.specs.Paths.{consumer_path}
 use Rattle.pm_create.specs.Making.{LeavesFiles}
 use Rattle.pm_read_schema.specs.Beside.{AnyPast, Learns}
+use Rattle.pm_read_schema.specs.Trace as reader
 use Rattle.pm_move_consumer.specs.DropperAllCalls.{AreOthersOf, DidDrop, DropsOn, ItGoes, ItLeaves, ItRests}
 use Rattle.pm_move_consumer.specs.DropperMeaning.{drop_by}
 use Rattle.pm_move_consumer.specs.DropperTrace as dropper
@@ -25,15 +26,15 @@ use Rattle.pm_move_consumer.specs.MoverAllCalls.{OthersRest}
 use Rattle.pm_move_consumer.specs.MoverMeaning.{HasPlainTable}
 use Rattle.pm_command.specs.Outside.{Outside, Prints}
 use Rattle.pm_command.specs.Table.{LearnsRefusal, MayRefuse}
-use Rattle.pm_command_consumers.specs.Consumers.{AfterSchema, ShowsSchema}
+use Rattle.pm_command_consumers.specs.Consumers.{AfterSchema}
 
 -- ---- its calls
 
--- Its calls of the store, by what it made: the consumer's file of a table that is built was removed, and whether one
--- was there was told; or they show a refusal, of the schema or of the remove.
+-- Its calls of the store, by what it made: the consumer's file was removed, and whether one was there was told; or they
+-- show why no schema was read, or a refusal of the remove.
 abbrev pub DidRemove : List ℕ → Result Bool Refusal → List Event → Type 0
 DidRemove name (Ok was_there) own = AfterSchema (DidDrop name (Ok was_there)) own
-DidRemove name (Err e) own = ShowsSchema e own ⊎ AfterSchema (dropper.Shows name e) own
+DidRemove name (Err e) own = reader.Shows e own ⊎ AfterSchema (dropper.Shows name e) own
 
 -- Whatever others do, of each past that has the table its last call makes no more than this, whoever makes it.
 abbrev pub RemovesBeside : List ℕ → Result Bool Refusal → StoreView → StoreView → Type 0

@@ -6,7 +6,7 @@ ghost use Rattle.pm_machine.specs.Trace.{HasTrace};
 ghost use Rattle.pm_store.specs.Store.{IsLater};
 ghost use Rattle.pm_command_consumers.specs.Consumers.{DidConsumers, IsListed, KeepsHistories, MadeBeside};
 
-use pm_command::{judge, print};
+use pm_command::print;
 use pm_consumer_files::{NamedConsumer, print_consumers};
 use pm_consumers::list_consumers;
 use pm_io::Sink;
@@ -27,19 +27,18 @@ pub fn run_consumers<W: Sink, F: FileStore>(
     ensures out_later { SinkLater (W.seen out.old) (W.seen out.new) }
     ensures store_later { IsLater (F.seen store.old) (F.seen store.new) }
 {
-    let consumers = list_built(alloc, store)?;
+    let consumers = list_all(alloc, store)?;
     let text = print_consumers(alloc, consumers.as_slice())?;
     print(out, &text, None)
 }
 
-/// Lists the consumers of a table that is built.
-fn list_built<F: FileStore>(alloc: Global, store: &mut F) -> Result<Vec<NamedConsumer>, Refusal>
+/// Lists the consumers of a table.
+fn list_all<F: FileStore>(alloc: Global, store: &mut F) -> Result<Vec<NamedConsumer>, Refusal>
     ensures trace { HasTrace (DidConsumers result) (F.seen store.old) (F.seen store.new) }
     ensures beside { MadeBeside result (F.seen store.old) (F.seen store.new) }
     ensures history { KeepsHistories (F.seen store.old) (F.seen store.new) result }
     ensures later { IsLater (F.seen store.old) (F.seen store.new) }
 {
     let schema = read_table_schema(alloc, store)?;
-    judge(alloc, &schema)?;
     list_consumers(alloc, store)
 }

@@ -9,7 +9,7 @@ ghost use Rattle.pm_store.specs.Store.{IsLater};
 ghost use Rattle.pm_command_consumers.specs.Drop.{told_text, DidRemove, IsRemoved, KeepsHistories, MadeBeside};
 
 use pm_base::Txt;
-use pm_command::{judge, print};
+use pm_command::print;
 use pm_io::Sink;
 use pm_move_consumer::drop_consumer;
 use pm_read_schema::read_table_schema;
@@ -30,12 +30,12 @@ pub fn run_drop<W: Sink, F: FileStore>(
     ensures out_later { SinkLater (W.seen out.old) (W.seen out.new) }
     ensures store_later { IsLater (F.seen store.old) (F.seen store.new) }
 {
-    let was_there = remove_built(alloc, name, store)?;
+    let was_there = remove_file(alloc, name, store)?;
     print(out, told_text(was_there), None)
 }
 
-/// Takes the file of a consumer of a table away that is built.
-fn remove_built<F: FileStore>(alloc: Global, name: &Txt, store: &mut F) -> Result<bool, Refusal>
+/// Takes the file of a consumer of a table away.
+fn remove_file<F: FileStore>(alloc: Global, name: &Txt, store: &mut F) -> Result<bool, Refusal>
     requires { IsPlain name.now }
     ensures trace { HasTrace (DidRemove name.now result) (F.seen store.old) (F.seen store.new) }
     ensures beside { MadeBeside name.now result (F.seen store.old) (F.seen store.new) }
@@ -43,7 +43,6 @@ fn remove_built<F: FileStore>(alloc: Global, name: &Txt, store: &mut F) -> Resul
     ensures later { IsLater (F.seen store.old) (F.seen store.new) }
 {
     let schema = read_table_schema(alloc, store)?;
-    judge(alloc, &schema)?;
     drop_consumer(alloc, name, store)
 }
 

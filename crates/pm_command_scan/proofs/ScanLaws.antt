@@ -1,5 +1,5 @@
 -- Laws of `scan`: what is so of its calls, and of a history.
-use Rattle.std.proofs.Common.{◌≡◌, ◌⊎◌, inl, inr, ℕ, List, ◌++◌, IfErr, IfOk, Option, None, Some, IsSome, Result, Ok, Err, Vec, refl, sym, subst, ap, ◌∙◌}
+use Rattle.std.proofs.Common.{◌≡◌, inl, inr, ℕ, List, ◌++◌, IfErr, IfOk, Option, None, Some, IsSome, Result, Ok, Err, Vec, refl, sym, subst, ap, ◌∙◌}
 use Rattle.std.specs.FinMap as map
 use Rattle.std.specs.Global.{Global}
 use Rattle.std.specs.Result.{result_err}
@@ -12,13 +12,13 @@ use Rattle.pm_store.specs.Store.{StoreView, at_first_own}
 use Rattle.pm_machine.specs.Trace.{Event, HasTrace}
 use Rattle.pm_machine.proofs.Facts.{Traces-join}
 use Rattle.pm_model_history.specs.History.{History, IsTableOf, no_table, table}
+use Rattle.pm_schema.specs.Again.{IsDeclared}
 use Rattle.pm_schema.specs.declared.schema.TableSchema.{TableSchema}
 use Rattle.pm_model_folder.specs.Folder.{Folder}
 use Rattle.pm_model_folder.specs.Ledger.{count_of}
 use Rattle.pm_read_schema.specs.AllCalls.{DidRead, HasFiles, Stay, ReadsTables}
 use Rattle.pm_read_schema.specs.Beside.{AnyPast, IsTold, Learns}
 use Rattle.pm_read_schema.proofs.BesideFacts.{learns-then}
-use Rattle.pm_draft.specs.Built.{IsBuilt, unbuilt}
 use Rattle.pm_scan.specs.AllCalls as scanner
 use Rattle.pm_scan.specs.AllCalls.{id_of, path_of, text_in, NamesAsked, PrintsScan}
 use Rattle.pm_scan.specs.Beside.{ScansBeside, TellsBeside}
@@ -26,22 +26,17 @@ use Rattle.pm_scan.specs.Meaning.{IsScan}
 use Rattle.pm_command.specs.Outside.{Outside, Prints}
 use Rattle.pm_command.specs.Table as tables
 use Rattle.pm_command_scan.specs.Scan.{DidScan, text_of, Scans, MayRefuse, IsThere, PrintsTable, PrintsPrefix, AnswersHistory, ScansTables, MadeBeside, MakesText, Keeps, KeepsHistories, IsScanned}
-use Rattle.pm_command.proofs.TableLemmas.{IsText, trace_weaker, files_of, leaves_of, rests_of, images_rest, caused, judged_caused, judged_told, read_told, unbuilt_is_text}
+use Rattle.pm_command.proofs.TableLemmas.{trace_weaker, files_of, leaves_of, rests_of, images_rest, caused}
 
 -- ---- its calls
 
 pub read_refused : (at : Option ℕ) (e : Refusal) (before after : StoreView) → HasTrace (DidRead (Err e)) before after → HasTrace (DidScan at (Err e)) before after
 read_refused at e before after = trace_weaker (DidRead (Err e)) (DidScan at (Err e)) (λ own shows. inl shows) before after
 
--- the schema isn't built, or memory ran out for saying so
-pub judge_refused : (at : Option ℕ) (s : TableSchema) (e : Refusal) (before after : StoreView) → (e ≡ refusals.Memory) ⊎ (unbuilt s ≡ Some e)
-    → HasTrace (DidRead (Ok s)) before after → HasTrace (DidScan at (Err e)) before after
-judge_refused at s e before after why = trace_weaker (DidRead (Ok s)) (DidScan at (Err e)) (λ own has. inr (inl (s, why, has))) before after
-
-pub scanned_trace : (at : Option ℕ) (s : TableSchema) (made : Result (List ℕ) Refusal) (before after : StoreView) → IsBuilt s
+pub scanned_trace : (at : Option ℕ) (s : TableSchema) (made : Result (List ℕ) Refusal) (before after : StoreView) → IsDeclared s
     → HasTrace (scanner.DidScan s at made) before after → HasTrace (DidScan at made) before after
-scanned_trace at s (Ok text) before after built = trace_weaker (scanner.DidScan s at (Ok text)) (DidScan at (Ok text)) (λ own did. (s, built, did)) before after
-scanned_trace at s (Err e) before after built = trace_weaker (scanner.DidScan s at (Err e)) (DidScan at (Err e)) (λ own did. inr (inr (s, built, did))) before after
+scanned_trace at s (Ok text) before after declared = trace_weaker (scanner.DidScan s at (Ok text)) (DidScan at (Ok text)) (λ own did. (s, declared, did)) before after
+scanned_trace at s (Err e) before after declared = trace_weaker (scanner.DidScan s at (Err e)) (DidScan at (Err e)) (λ own did. inr (s, declared, did)) before after
 
 -- ---- what they make known
 
@@ -53,20 +48,7 @@ read_names at e own shows = tt
 
 pub read_beside : (at : Option ℕ) (e : Refusal) (before after : StoreView) → HasTrace (DidRead (Err e)) before after → Learns AnyPast (IsTold e) before after
     → MadeBeside at (Err e) before after
-read_beside at e before after (own, shows, trace) told = (read_names at e own shows, read_told AnyPast e before after told)
-
--- nor where it isn't built
-text_names : (at : Option ℕ) (e : Refusal) → IsText e → NamesAsked at e
-text_names at (refusals.Unsupported what text) is = tt
-text_names at other is = absurd is
-
-judge_names : (at : Option ℕ) (s : TableSchema) (e : Refusal) → (e ≡ refusals.Memory) ⊎ (unbuilt s ≡ Some e) → NamesAsked at e
-judge_names at s e (inl memory) = subst (NamesAsked at) (sym memory) tt
-judge_names at s e (inr why) = text_names at e (unbuilt_is_text s e why)
-
-pub judged_beside : (at : Option ℕ) (s : TableSchema) (e : Refusal) (before after : StoreView) → (e ≡ refusals.Memory) ⊎ (unbuilt s ≡ Some e)
-    → Learns AnyPast (λ f p. IsTableOf s p.history) before after → MadeBeside at (Err e) before after
-judged_beside at s e before after why learned = (judge_names at s e why, judged_told s e before after why learned)
+read_beside at e before after (own, shows, trace) told = (read_names at e own shows, told)
 
 -- calls that read the schema, and those of a scan after them
 pub scanned_beside : (at : Option ℕ) (s : TableSchema) (made : Result (Vec ℕ Global) Refusal) (before middle after : StoreView)
@@ -74,7 +56,7 @@ pub scanned_beside : (at : Option ℕ) (s : TableSchema) (made : Result (Vec ℕ
     → IfOk made (λ text. ScansBeside s at text.items middle after) → IfErr made (λ refusal. TellsBeside s refusal middle after)
     → IfErr made (NamesAsked at) → MadeBeside at (text_in made) before after
 scanned_beside at s (Err e) before middle after read learned scans told names =
-    (names, read_told AnyPast e before after (learns-then AnyPast (λ f p. IsTableOf s p.history) (IsTold e) before middle after learned told))
+    (names, learns-then AnyPast (λ f p. IsTableOf s p.history) (IsTold e) before middle after learned told)
 scanned_beside at s (Ok text) before middle after (earlier, did, first) learned (id, (later, has, then_came), knows) told names = (
   s,
   id,
@@ -101,14 +83,14 @@ as_listing h at first after (refusals.Expired id) may = absurd may
 as_listing h at first after e may = may
 
 scan_caused : (f : Files) (s : TableSchema) (h : History) (at : Option ℕ) (first after : StoreView) (e : Refusal) → HasFiles f first → IsTableOf s h
-    → IsBuilt s → scanner.IsCaused f s h at first after e → MayRefuse h at first after e
-scan_caused f s h at first after refusals.Memory has is built cause = tt
-scan_caused f s h at first after (refusals.StoreFault path) has is built cause = cause
-scan_caused f s h at first after (refusals.NoSnapshot id latest) has is built (asked, newest, above) =
-    ((s, is, built), asked, newest, above)
-scan_caused f s h at first after (refusals.Expired id) has is built (asked, within, gone) =
-    ((s, is, built), asked, within, (s, is, leaves_of (λ f. map.get f (path_of s id) ≡ None) f first has gone))
-scan_caused f s h at first after e has is built cause = absurd cause
+    → IsDeclared s → scanner.IsCaused f s h at first after e → MayRefuse h at first after e
+scan_caused f s h at first after refusals.Memory has is declared cause = tt
+scan_caused f s h at first after (refusals.StoreFault path) has is declared cause = cause
+scan_caused f s h at first after (refusals.NoSnapshot id latest) has is declared (asked, newest, above) =
+    ((s, is, declared), asked, newest, above)
+scan_caused f s h at first after (refusals.Expired id) has is declared (asked, within, gone) =
+    ((s, is, declared), asked, within, (s, is, leaves_of (λ f. map.get f (path_of s id) ≡ None) f first has gone))
+scan_caused f s h at first after e has is declared cause = absurd cause
 
 -- ---- what its calls do to histories
 
@@ -119,32 +101,24 @@ read_keeps at e before after reads = λ alone h stands.
     let read = reads alone files.0 h files.1 files.2 in
     keeps h at files.0 first after (Err e) files.1 files.2 read.files (as_listing h at first after e (caused h first after e read.cause))
 
-pub judge_keeps : (at : Option ℕ) (s : TableSchema) (e : Refusal) (before after : StoreView) → (e ≡ refusals.Memory) ⊎ (unbuilt s ≡ Some e)
-    → ReadsTables before after (Ok s) → KeepsHistories at before after (Err e)
-judge_keeps at s e before after why reads = λ alone h stands.
-    let first = at_first_own before after in
-    let files = files_of (λ f. Folder f h) first stands in
-    let read = reads alone files.0 h files.1 files.2 in
-    keeps h at files.0 first after (Err e) files.1 files.2 read.files (as_listing h at first after e (judged_caused h first after s e read.schema why))
-
 is_there : (f : Files) (s : TableSchema) (h : History) (id : ℕ) (first : StoreView) → HasFiles f first → IsTableOf s h
     → scanner.IsThere f s h id → IsThere h id first
 is_there f s h id first has is (within, there) =
     (within, (s, is, leaves_of (λ f. IsSome (map.get f (path_of s id))) f first has there))
 
 scanned_makes : (f : Files) (h : History) (s : TableSchema) (at : Option ℕ) (first after : StoreView) (made : Result (List ℕ) Refusal) → HasFiles f first
-    → IsBuilt s → scanner.ScansTable f h s at first after made → MakesText h at first after made
-scanned_makes f h s at first after (Ok text) has built scans =
+    → IsDeclared s → scanner.ScansTable f h s at first after made → MakesText h at first after made
+scanned_makes f h s at first after (Ok text) has declared scans =
     (is_there f s h (id_of at (count_of h)) first has scans.schema scans.there, scans.text)
-scanned_makes f h s at first after (Err e) has built scans = scan_caused f s h at first after e has scans.schema built scans.cause
+scanned_makes f h s at first after (Err e) has declared scans = scan_caused f s h at first after e has scans.schema declared scans.cause
 
-pub scanned_keeps : (at : Option ℕ) (s : TableSchema) (made : Result (List ℕ) Refusal) (before after : StoreView) → IsBuilt s → scanner.ScansTables s at before after made
+pub scanned_keeps : (at : Option ℕ) (s : TableSchema) (made : Result (List ℕ) Refusal) (before after : StoreView) → IsDeclared s → scanner.ScansTables s at before after made
     → KeepsHistories at before after made
-scanned_keeps at s made before after built scans = λ alone h stands.
+scanned_keeps at s made before after declared scans = λ alone h stands.
     let first = at_first_own before after in
     let files = files_of (λ f. Folder f h) first stands in
     let scan = scans alone files.0 h files.1 files.2 in
-    keeps h at files.0 first after made files.1 files.2 scan.files (scanned_makes files.0 h s at first after made files.1 built scan)
+    keeps h at files.0 first after made files.1 files.2 scan.files (scanned_makes files.0 h s at first after made files.1 declared scan)
 
 -- ---- and what was printed
 

@@ -10,13 +10,13 @@ use Rattle.pm_store.specs.Store.{StoreView, FromFirst}
 use Rattle.pm_machine.specs.Trace.{Event, HasTrace}
 use Rattle.pm_model_history.specs.History.{History, IsTableOf, no_table, table, rows_up_to}
 use Rattle.pm_model_history.specs.Merged.{scan_text}
+use Rattle.pm_schema.specs.Again.{IsDeclared}
 use Rattle.pm_schema.specs.declared.schema.TableSchema.{TableSchema}
 use Rattle.pm_model_folder.specs.Folder.{Folder}
 use Rattle.pm_model_folder.specs.Ledger.{count_of}
 use Rattle.pm_create.specs.Making.{LeavesFiles}
 use Rattle.pm_read_schema.specs.Beside.{AnyPast, Learns}
 use Rattle.pm_read_schema.specs.Trace as reader
-use Rattle.pm_draft.specs.Built.{IsBuilt}
 use Rattle.pm_scan.specs.AllCalls as scanner
 use Rattle.pm_scan.specs.AllCalls.{id_of, path_of, NamesAsked, PrintsScan}
 use Rattle.pm_scan.specs.Asked.{asked_at}
@@ -24,17 +24,17 @@ use Rattle.pm_scan.specs.Meaning.{IsScan}
 use Rattle.pm_scan.specs.Trace.{HasScan}
 use Rattle.pm_command.specs.Outside.{ImagesRest, Outside, Prints, Rests}
 use Rattle.pm_command.specs.Table as tables
-use Rattle.pm_command.specs.Table.{EndsAtSchema, LearnsRefusal}
+use Rattle.pm_command.specs.Table.{LearnsRefusal}
 
--- they go on from the schema, which is built, and are those of a scan with this answer
+-- they go on from the schema, and are those of a scan with this answer
 abbrev pub GoesOnAs : Option ℕ → Result (List ℕ) Refusal → List Event → Type 0
-GoesOnAs at made own = (s : TableSchema) × IsBuilt s × scanner.DidScan s at made own
+GoesOnAs at made own = (s : TableSchema) × IsDeclared s × scanner.DidScan s at made own
 
--- Its calls of the store, by what it made: the text of the scan of a table that is built, at the snapshot; or they show
--- why no schema was read, or end with the schema, or later.
+-- Its calls of the store, by what it made: the text of the scan of the table, at the snapshot; or they show why no
+-- schema was read, or a refusal later.
 abbrev pub DidScan : Option ℕ → Result (List ℕ) Refusal → List Event → Type 0
 DidScan at (Ok text) own = GoesOnAs at (Ok text) own
-DidScan at (Err e) own = reader.Shows e own ⊎ (EndsAtSchema e own ⊎ GoesOnAs at (Err e) own)
+DidScan at (Err e) own = reader.Shows e own ⊎ GoesOnAs at (Err e) own
 
 -- the schema was read, and by the calls of a scan after that the snapshot with the id, which has this text
 abbrev pub HasRead : TableSchema → Option ℕ → ℕ → List ℕ → List Event → Type 0
@@ -44,8 +44,8 @@ HasRead s at id text own =
 
 -- Whatever others do before, between and after its calls, the text is the scan of the table at the snapshot that these
 -- read: of each history that the files stand for, once others changed them by the kinds of change alone. A refusal
--- tells what is so at the call that shows it: that there is no table, or none that is built; that the snapshot has
--- gone; or that it is above the latest. And the snapshot is the one that is asked for, if one is. No file is called
+-- tells what is so at the call that shows it: that there is no table; that the snapshot has gone; or that it is above
+-- the latest. And the snapshot is the one that is asked for, if one is. No file is called
 -- damaged.
 abbrev pub MadeBeside : Option ℕ → Result (List ℕ) Refusal → StoreView → StoreView → Type 0
 MadeBeside at (Ok text) before after = (s : TableSchema) × (id : ℕ) × HasTrace (HasRead s at id text) before after
@@ -75,17 +75,16 @@ abbrev pub IsThere : History → ℕ → StoreView → Type 0
 IsThere h id first = (id ≤ count_of h)
     × ((s : TableSchema) × IsTableOf s h × LeavesFiles (λ f. IsSome (map.get f (path_of s id))) first)
 
--- the history's table is built
-abbrev pub HasBuiltTable : History → Type 0
-HasBuiltTable h = (s : TableSchema) × IsTableOf s h × IsBuilt s
+-- the history has a table
+abbrev pub HasTable : History → Type 0
+HasTable h = (s : TableSchema) × IsTableOf s h × IsDeclared s
 
--- What a history may be refused for: the snapshot that is asked for, of a table that is built, is above the newest or
--- has gone; or why each command may refuse a table (`MayRefuse` of `pm_command`).
+-- What a history may be refused for: the snapshot that is asked for is above the newest or has gone; or why each command may refuse a table (`MayRefuse` of `pm_command`).
 abbrev pub MayRefuse : History → Option ℕ → StoreView → StoreView → Refusal → Type 0
 MayRefuse h at first after (refusals.NoSnapshot id latest) =
-    HasBuiltTable h × (at ≡ Some id) × (latest ≡ count_of h) × (latest < id)
+    HasTable h × (at ≡ Some id) × (latest ≡ count_of h) × (latest < id)
 MayRefuse h at first after (refusals.Expired id) =
-    HasBuiltTable h × (at ≡ Some id) × (id ≤ count_of h) × HasGone h id first
+    HasTable h × (at ≡ Some id) × (id ≤ count_of h) × HasGone h id first
 MayRefuse h at first after other = tables.MayRefuse h first after other
 
 -- the scan of the history's table was printed, at the newest snapshot or at the one that is asked for

@@ -7,7 +7,7 @@ ghost use Rattle.pm_scan.specs.AllCalls.{text_in};
 ghost use Rattle.pm_store.specs.Store.{IsLater};
 ghost use Rattle.pm_command_scan.specs.Scan.{DidScan, IsScanned, KeepsHistories, MadeBeside};
 
-use pm_command::{judge, print};
+use pm_command::print;
 use pm_engines::declared_law;
 use pm_io::Sink;
 use pm_read_schema::read_table_schema;
@@ -28,12 +28,12 @@ pub fn run_scan<W: Sink, F: FileStore>(
     ensures out_later { SinkLater (W.seen out.old) (W.seen out.new) }
     ensures store_later { IsLater (F.seen store.old) (F.seen store.new) }
 {
-    let text = scan_built(alloc, snapshot, store)?;
+    let text = read_scan(alloc, snapshot, store)?;
     print(out, &text, None)
 }
 
-/// The text of the scan of a table that is built.
-fn scan_built<F: FileStore>(
+/// The text of the scan of a table.
+fn read_scan<F: FileStore>(
     alloc: Global,
     snapshot: Option<u64>,
     store: &mut F,
@@ -44,7 +44,6 @@ fn scan_built<F: FileStore>(
     ensures later { IsLater (F.seen store.old) (F.seen store.new) }
 {
     let schema = read_table_schema(alloc, store)?;
-    judge(alloc, &schema)?;
     declared_law();
     scan_table(alloc, schema, snapshot, store)
 }

@@ -25,7 +25,6 @@ use Rattle.pm_read_schema.specs.Trace as reader
 use Rattle.pm_read_schema.specs.Trace.{Names, listed_schemas, listed_snapshots, read_schema}
 use Rattle.pm_read_schema.specs.declared.phase.Phase as reader_phase
 use Rattle.pm_read_schema.specs.declared.phase.Phase.TheVariants as readers
-use Rattle.pm_draft.specs.Built.{unbuilt}
 use Rattle.pm_snapshots.specs.Lines.{line_of}
 use Rattle.pm_snapshots.specs.Lister as lister_machine
 use Rattle.pm_snapshots.specs.Lister.{snapshot_call}
@@ -328,7 +327,6 @@ own_refused e own shows = absurd shows
 -- ---- what they show
 
 abbrev answer_at : Place → Option (Result (List SnapshotLine) Refusal)
-answer_at (snapshots s) = option_map Err (unbuilt s)
 answer_at (lines [] done) = Some (Ok done)
 answer_at (over e) = Some (Err e)
 answer_at m = None
@@ -341,12 +339,10 @@ refused_shown e own (inl memory) = inl (ap Err memory)
 refused_shown e own (inr path) = inr (over e, path, refl)
 
 is_shown : (made : Result (List SnapshotLine) Refusal) (own : List Event) → DidSnapshots made own → IsShown made own
-is_shown (Ok ls) own (s, built, listed) = inr (lines [] ls, all_path s ls own listed, refl)
+is_shown (Ok ls) own (s, declared, listed) = inr (lines [] ls, all_path s ls own listed, refl)
 is_shown (Err e) own (inl shows) = refused_shown e own (reader_refused e own shows)
-is_shown (Err e) own (inr (inl (s, inl memory, has))) = inl (ap Err memory)
-is_shown (Err e) own (inr (inl (s, inr why, has))) = inr (snapshots s, ready_path s own has, ap (option_map Err) why)
-is_shown (Err e) own (inr (inr (s, built, from, inl shows))) = refused_shown e own (reader_refused e own shows)
-is_shown (Err e) own (inr (inr (s, built, from, inr shows))) = refused_shown e own (own_refused e own shows)
+is_shown (Err e) own (inr (s, declared, from, inl shows)) = refused_shown e own (reader_refused e own shows)
+is_shown (Err e) own (inr (s, declared, from, inr shows)) = refused_shown e own (own_refused e own shows)
 
 one_shown : (own : List Event) (one other : Result (List SnapshotLine) Refusal) → IsShown one own → IsShown other own
     → (one ≡ other) ⊎ ((one ≡ Err refusals.Memory) ⊎ (other ≡ Err refusals.Memory))

@@ -1,5 +1,5 @@
 -- Laws of `snapshots`: what is so of its calls, and of a history.
-use Rattle.std.proofs.Common.{◌≡◌, ◌≢◌, ◌⊎◌, inl, inr, ℕ, List, [], ◌∷◌, IfErr, IfOk, Option, None, Some, Result, Ok, Err, refl, sym, subst, ◌++◌, ap, append_assoc, ◌∙◌}
+use Rattle.std.proofs.Common.{◌≡◌, ◌≢◌, inl, inr, ℕ, List, [], ◌∷◌, IfErr, IfOk, Option, None, Some, Result, Ok, Err, refl, sym, subst, ◌++◌, ap, append_assoc, ◌∙◌}
 use Rattle.std.specs.Result.{result_err}
 use Rattle.pm_values.specs.declared.refusal.Refusal.{Refusal}
 use Rattle.pm_values.specs.declared.refusal.Refusal.TheVariants as refusals
@@ -8,13 +8,13 @@ use Rattle.pm_store.specs.Files.{Files}
 use Rattle.pm_store.specs.Store.{StoreView, at_first_own}
 use Rattle.pm_machine.specs.Trace.{Event, HasTrace}
 use Rattle.pm_model_history.specs.History.{History, IsTableOf, no_table}
+use Rattle.pm_schema.specs.Again.{IsDeclared}
 use Rattle.pm_schema.specs.declared.schema.TableSchema.{TableSchema}
 use Rattle.pm_model_folder.specs.Folder.{Folder}
 use Rattle.pm_read_schema.specs.AllCalls.{DidRead, HasFiles, Stay, ReadsTables}
 use Rattle.pm_read_schema.specs.Beside.{AnyPast, IsTold, Learns}
 use Rattle.pm_read_schema.proofs.BesideFacts.{learns-then, learns-weaker}
 use Rattle.pm_read_schema.specs.Trace.{listed_snapshots}
-use Rattle.pm_draft.specs.Built.{IsBuilt, unbuilt}
 use Rattle.pm_snapshots.specs.AllCalls as lister
 use Rattle.pm_snapshots.specs.AllCalls.{AreLinesIn, AreLinesOf, GoesOnFrom, ListsBeside}
 use Rattle.pm_snapshots.specs.Lister.{lines_of}
@@ -22,8 +22,8 @@ use Rattle.pm_snapshots.specs.Trace.{HasListed}
 use Rattle.pm_snapshots.specs.declared.line.SnapshotLine.{SnapshotLine}
 use Rattle.pm_snapshots.specs.declared.phase.Phase.{Phase}
 use Rattle.pm_command.specs.Outside.{Outside, Prints}
-use Rattle.pm_command.specs.Table.{IsToldOfTable, MayRefuse}
-use Rattle.pm_command.proofs.TableLemmas.{trace_weaker, files_of, leaves_of, rests_of, images_rest, caused, judged_caused, judged_told, read_told}
+use Rattle.pm_command.specs.Table.{MayRefuse}
+use Rattle.pm_command.proofs.TableLemmas.{trace_weaker, files_of, leaves_of, rests_of, images_rest, caused}
 use Rattle.pm_command_snapshots.specs.Snapshots.{DidSnapshots, text_of, ListsSnapshots, AnswersHistory, ListsTables, MadeBeside, made_of, MakesLines, Keeps, KeepsHistories, IsListed}
 
 -- ---- its calls
@@ -31,15 +31,10 @@ use Rattle.pm_command_snapshots.specs.Snapshots.{DidSnapshots, text_of, ListsSna
 pub read_refused : (e : Refusal) (before after : StoreView) → HasTrace (DidRead (Err e)) before after → HasTrace (DidSnapshots (made_of (Err e))) before after
 read_refused e before after = trace_weaker (DidRead (Err e)) (DidSnapshots (Err e)) (λ own shows. inl shows) before after
 
--- the schema isn't built, or memory ran out for saying so
-pub judge_refused : (s : TableSchema) (e : Refusal) (before after : StoreView) → (e ≡ refusals.Memory) ⊎ (unbuilt s ≡ Some e)
-    → HasTrace (DidRead (Ok s)) before after → HasTrace (DidSnapshots (made_of (Err e))) before after
-judge_refused s e before after why = trace_weaker (DidRead (Ok s)) (DidSnapshots (Err e)) (λ own has. inr (inl (s, why, has))) before after
-
-pub listed_trace : (s : TableSchema) (result : Result Phase Refusal) (before after : StoreView) → IsBuilt s
+pub listed_trace : (s : TableSchema) (result : Result Phase Refusal) (before after : StoreView) → IsDeclared s
     → HasTrace (lister.DidList s result) before after → HasTrace (DidSnapshots (made_of result)) before after
-listed_trace s (Ok m) before after built = trace_weaker (lister.DidList s (Ok m)) (DidSnapshots (Ok (lines_of m))) (λ own listed. (s, built, listed)) before after
-listed_trace s (Err e) before after built = trace_weaker (lister.DidList s (Err e)) (DidSnapshots (Err e)) (λ own (from, shows). inr (inr (s, built, from, shows))) before after
+listed_trace s (Ok m) before after declared = trace_weaker (lister.DidList s (Ok m)) (DidSnapshots (Ok (lines_of m))) (λ own listed. (s, declared, listed)) before after
+listed_trace s (Err e) before after declared = trace_weaker (lister.DidList s (Err e)) (DidSnapshots (Err e)) (λ own (from, shows). inr (s, declared, from, shows)) before after
 
 -- the calls of the lines go on from the schema
 listed_from : (s : TableSchema) (lines : List SnapshotLine) (own : List Event) → HasListed s lines own → GoesOnFrom s own
@@ -54,7 +49,7 @@ listed_from s lines own (names, earlier, reads, are, (before, has, listed), all,
 memory_trace : (lines : List SnapshotLine) (before after : StoreView) → HasTrace (DidSnapshots (Ok lines)) before after → HasTrace (DidSnapshots (Err refusals.Memory)) before after
 memory_trace lines before after =
     trace_weaker (DidSnapshots (Ok lines)) (DidSnapshots (Err refusals.Memory))
-    (λ own (s, built, listed). inr (inr (s, built, listed_from s lines own listed, inr (inr (s, lines, listed)))))
+    (λ own (s, declared, listed). inr (s, declared, listed_from s lines own listed, inr (inr (s, lines, listed))))
     before after
 
 -- ---- what they make known
@@ -64,22 +59,18 @@ pub listed_known : (s : TableSchema) (result : Result Phase Refusal) (before mid
     → Learns AnyPast (λ f p. IsTableOf s p.history) before middle → IfOk result (λ m. ListsBeside s (lines_of m) middle after)
     → IfErr result (λ e. Learns (λ f p. IsTableOf s p.history) (IsTold e) middle after) → MadeBeside (made_of result) before after
 listed_known s (Err e) before middle after did learned lists refused =
-    read_told AnyPast e before after (learns-then AnyPast (λ f p. IsTableOf s p.history) (IsTold e) before middle after learned refused)
+    learns-then AnyPast (λ f p. IsTableOf s p.history) (IsTold e) before middle after learned refused
 listed_known s (Ok m) before middle after did learned lists refused =
     (s, did, learns-then AnyPast (λ f p. IsTableOf s p.history) (λ f p. AreLinesIn s (lines_of m) p) before middle after learned lists)
 
--- or those that read no schema, or end with one that isn't built
+-- or those that read no schema
 pub read_known : (e : Refusal) (before after : StoreView) → Learns AnyPast (IsTold e) before after → MadeBeside (made_of (Err e)) before after
-read_known e before after = read_told AnyPast e before after
-
-pub judge_known : (s : TableSchema) (e : Refusal) (before after : StoreView) → (e ≡ refusals.Memory) ⊎ (unbuilt s ≡ Some e)
-    → Learns AnyPast (λ f p. IsTableOf s p.history) before after → MadeBeside (made_of (Err e)) before after
-judge_known s e before after = judged_told s e before after
+read_known e before after told = told
 
 -- where memory runs out for the text that is told of what the lines are
 memory_known : (lines : List SnapshotLine) (before after : StoreView) → MadeBeside (Ok lines) before after → MadeBeside (Err refusals.Memory) before after
 memory_known lines before after (s, trace, learned) =
-    learns-weaker AnyPast AnyPast (λ f p. AreLinesIn s lines p) (IsToldOfTable refusals.Memory) before after (λ f p known. known) (λ f p stands known. tt) learned
+    learns-weaker AnyPast AnyPast (λ f p. AreLinesIn s lines p) (IsTold refusals.Memory) before after (λ f p known. known) (λ f p stands known. tt) learned
 
 -- ---- files that stay
 
@@ -103,14 +94,6 @@ read_keeps e before after reads = λ alone h stands.
     let at = files_of (λ f. Folder f h) first stands in
     let read = reads alone at.0 h at.1 at.2 in
     keeps h at.0 first after (Err e) at.1 at.2 read.files (caused h first after e read.cause)
-
-pub judge_keeps : (s : TableSchema) (e : Refusal) (before after : StoreView) → (e ≡ refusals.Memory) ⊎ (unbuilt s ≡ Some e)
-    → ReadsTables before after (Ok s) → KeepsHistories before after (made_of (Err e))
-judge_keeps s e before after why reads = λ alone h stands.
-    let first = at_first_own before after in
-    let at = files_of (λ f. Folder f h) first stands in
-    let read = reads alone at.0 h at.1 at.2 in
-    keeps h at.0 first after (Err e) at.1 at.2 read.files (judged_caused h first after s e read.schema why)
 
 listed_makes : (f : Files) (h : History) (s : TableSchema) (first after : StoreView) (result : Result Phase Refusal) → HasFiles f first
     → lister.ListsTable f h s first after result → MakesLines h first after (made_of result)

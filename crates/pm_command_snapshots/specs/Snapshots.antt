@@ -8,12 +8,12 @@ use Rattle.pm_io.specs.Sink.{SinkView, SinkFailed, TookPrefix}
 use Rattle.pm_store.specs.Store.{StoreView, FromFirst}
 use Rattle.pm_machine.specs.Trace.{Event, HasTrace}
 use Rattle.pm_model_history.specs.History.{History, no_table}
+use Rattle.pm_schema.specs.Again.{IsDeclared}
 use Rattle.pm_schema.specs.declared.schema.TableSchema.{TableSchema}
 use Rattle.pm_model_folder.specs.Folder.{Folder}
 use Rattle.pm_create.specs.Making.{LeavesFiles}
 use Rattle.pm_read_schema.specs.Beside.{AnyPast, Learns}
 use Rattle.pm_read_schema.specs.Trace as reader
-use Rattle.pm_draft.specs.Built.{IsBuilt}
 use Rattle.pm_snapshots.specs.AllCalls.{AreLinesIn, AreLinesOf, GoesOnFrom}
 use Rattle.pm_snapshots.specs.Lines.{snapshots_text}
 use Rattle.pm_snapshots.specs.Lister.{lines_of}
@@ -21,22 +21,22 @@ use Rattle.pm_snapshots.specs.Trace.{HasListed, Shows}
 use Rattle.pm_snapshots.specs.declared.line.SnapshotLine.{SnapshotLine}
 use Rattle.pm_snapshots.specs.declared.phase.Phase.{Phase}
 use Rattle.pm_command.specs.Outside.{ImagesRest, Outside, Prints, Rests}
-use Rattle.pm_command.specs.Table.{EndsAtSchema, LearnsRefusal, MayRefuse}
+use Rattle.pm_command.specs.Table.{LearnsRefusal, MayRefuse}
 
--- they go on from the schema, which is built, and show a refusal of what follows
+-- they go on from the schema, and show a refusal of what follows
 abbrev pub EndsLater : Refusal → List Event → Type 0
-EndsLater e own = (s : TableSchema) × IsBuilt s × GoesOnFrom s own × Shows e own
+EndsLater e own = (s : TableSchema) × IsDeclared s × GoesOnFrom s own × Shows e own
 
--- Its calls of the store, by what it made: the lines of all snapshots of a table that is built; or they show why no
--- schema was read, or end with the schema, or later.
+-- Its calls of the store, by what it made: the lines of all snapshots of the table; or they show why no schema was
+-- read, or a refusal later.
 abbrev pub DidSnapshots : Result (List SnapshotLine) Refusal → List Event → Type 0
-DidSnapshots (Ok lines) own = (s : TableSchema) × IsBuilt s × HasListed s lines own
-DidSnapshots (Err e) own = reader.Shows e own ⊎ (EndsAtSchema e own ⊎ EndsLater e own)
+DidSnapshots (Ok lines) own = (s : TableSchema) × IsDeclared s × HasListed s lines own
+DidSnapshots (Err e) own = reader.Shows e own ⊎ EndsLater e own
 
 -- Whatever others do before, between and after its calls, the lines are those of the table's snapshots that these
 -- listed, each as it stood when it was committed: in each history that the files stand for, once others changed them by
--- the kinds of change alone. And a refusal tells what is so at the call that shows it: that there is no table, or none
--- that is built; or that a snapshot has gone. No file is called damaged.
+-- the kinds of change alone. And a refusal tells what is so at the call that shows it: that there is no table; or that
+-- a snapshot has gone. No file is called damaged.
 abbrev pub MadeBeside : Result (List SnapshotLine) Refusal → StoreView → StoreView → Type 0
 MadeBeside (Ok lines) before after = (s : TableSchema) × HasTrace (HasListed s lines) before after
     × Learns AnyPast (λ f p. AreLinesIn s lines p) before after

@@ -8,7 +8,7 @@ ghost use Rattle.pm_snapshots.specs.Lister.{IsDone};
 ghost use Rattle.pm_store.specs.Store.{IsLater};
 ghost use Rattle.pm_command_snapshots.specs.Snapshots.{made_of, DidSnapshots, IsListed, KeepsHistories, MadeBeside};
 
-use pm_command::{judge, print};
+use pm_command::print;
 use pm_io::Sink;
 use pm_read_schema::read_table_schema;
 use pm_snapshots::{Lister, list_snapshots, list_text};
@@ -28,13 +28,13 @@ pub fn run_snapshots<W: Sink, F: FileStore>(
     ensures out_later { SinkLater (W.seen out.old) (W.seen out.new) }
     ensures store_later { IsLater (F.seen store.old) (F.seen store.new) }
 {
-    let lister = list_built(alloc, store)?;
+    let lister = list_all(alloc, store)?;
     let text = list_text(alloc, &lister)?;
     print(out, &text, None)
 }
 
-/// Lists the snapshots of a table that is built.
-fn list_built<F: FileStore>(alloc: Global, store: &mut F) -> Result<Lister, Refusal>
+/// Lists the snapshots of a table.
+fn list_all<F: FileStore>(alloc: Global, store: &mut F) -> Result<Lister, Refusal>
     ensures done { IfOk result IsDone }
     ensures trace { HasTrace (DidSnapshots (made_of result)) (F.seen store.old) (F.seen store.new) }
     ensures beside { MadeBeside (made_of result) (F.seen store.old) (F.seen store.new) }
@@ -42,6 +42,5 @@ fn list_built<F: FileStore>(alloc: Global, store: &mut F) -> Result<Lister, Refu
     ensures later { IsLater (F.seen store.old) (F.seen store.new) }
 {
     let schema = read_table_schema(alloc, store)?;
-    judge(alloc, &schema)?;
     list_snapshots(alloc, schema, store)
 }

@@ -10,7 +10,7 @@ returns-in_err-consumers-clause-listed g c =
     let p = err_from_is_err_and c.from_residual.result c.from_residual.ensures.1 in
     rw (p.1, p.2)
     (refused_listed c.in_err-consumers.field-0.0 (g.W.Sink.seen c.args.out.now) (g.F.FileStore.seen c.args.store.now)
-    (g.F.FileStore.seen c.list_built.new.store) c.in_err-consumers.ensures.trace c.in_err-consumers.ensures.beside
+    (g.F.FileStore.seen c.list_all.new.store) c.in_err-consumers.ensures.trace c.in_err-consumers.ensures.beside
     c.in_err-consumers.ensures.history)
 
 pub returns-in_err-text-clause-listed : goal.returns-in_err-text-clause-listed
@@ -18,11 +18,11 @@ returns-in_err-text-clause-listed g c =
     let p = err_from_is_err_and c.from_residual-in_err-text.result c.from_residual-in_err-text.ensures.1 in
     rw (p.1, p.2)
     (memory_listed c.in_ok-consumers.consumers (g.W.Sink.seen c.args.out.now) (g.F.FileStore.seen c.args.store.now)
-    (g.F.FileStore.seen c.list_built.new.store) c.in_ok-consumers.ensures.trace c.in_ok-consumers.ensures.beside c.in_ok-consumers.ensures.history)
+    (g.F.FileStore.seen c.list_all.new.store) c.in_ok-consumers.ensures.trace c.in_ok-consumers.ensures.beside c.in_ok-consumers.ensures.history)
 
 pub returns-clause-listed : goal.returns-clause-listed
 returns-clause-listed g c =
     printed_listed c.in_ok-consumers.consumers c.deref.result.now (g.W.Sink.seen c.args.out.now) (g.W.Sink.seen c.print.new.out)
-    (g.F.FileStore.seen c.args.store.now) (g.F.FileStore.seen c.list_built.new.store) (result_err c.print.result)
+    (g.F.FileStore.seen c.args.store.now) (g.F.FileStore.seen c.list_all.new.store) (result_err c.print.result)
     (c.deref.ensures.value ∙ c.in_ok-text.ensures ∙ ap consumers_text c.as_slice.ensures.value) c.in_ok-consumers.ensures.trace c.in_ok-consumers.ensures.beside c.in_ok-consumers.ensures.history
     c.print.ensures.prints

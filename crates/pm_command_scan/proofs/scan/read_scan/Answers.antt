@@ -1,7 +1,7 @@
 use Rattle.std.proofs.lemmas.Result.{err_from_is_err_and}
 use Rattle.pm_scan.specs.AllCalls.{text_in}
-use Rattle.pm_command_scan.proofs.ScanLaws.{judge_refused, judged_beside, read_beside, scanned_beside, scanned_trace, read_keeps, judge_keeps, scanned_keeps}
-use Rattle.pm_command_scan.proofs.scan.scan_built.Goals as goal
+use Rattle.pm_command_scan.proofs.ScanLaws.{read_beside, scanned_beside, scanned_trace, read_keeps, scanned_keeps}
+use Rattle.pm_command_scan.proofs.scan.read_scan.Goals as goal
 
 pub returns-in_err-schema-clause-beside : goal.returns-in_err-schema-clause-beside
 returns-in_err-schema-clause-beside g c =
@@ -17,27 +17,6 @@ returns-in_err-schema-clause-history g c =
     (read_keeps c.args.snapshot c.in_err-schema.field-0.0 (g.F.FileStore.seen c.args.store.now)
     (g.F.FileStore.seen c.read_table_schema.new.store) c.in_err-schema.ensures.history)
 
-pub returns-in_err-judge-clause-trace : goal.returns-in_err-judge-clause-trace
-returns-in_err-judge-clause-trace g c =
-    let p = err_from_is_err_and c.from_residual-in_err-judge.result c.from_residual-in_err-judge.ensures.1 in
-    rw (p.1, p.2)
-    (judge_refused c.args.snapshot c.in_ok-schema.schema c.in_err-judge.field-0.0 (g.F.FileStore.seen c.args.store.now)
-    (g.F.FileStore.seen c.read_table_schema.new.store) c.in_err-judge.ensures.unbuilt c.in_ok-schema.ensures.trace)
-
-pub returns-in_err-judge-clause-beside : goal.returns-in_err-judge-clause-beside
-returns-in_err-judge-clause-beside g c =
-    let p = err_from_is_err_and c.from_residual-in_err-judge.result c.from_residual-in_err-judge.ensures.1 in
-    rw (p.1, p.2)
-    (judged_beside c.args.snapshot c.in_ok-schema.schema c.in_err-judge.field-0.0 (g.F.FileStore.seen c.args.store.now)
-    (g.F.FileStore.seen c.read_table_schema.new.store) c.in_err-judge.ensures.unbuilt c.in_ok-schema.ensures.beside)
-
-pub returns-in_err-judge-clause-history : goal.returns-in_err-judge-clause-history
-returns-in_err-judge-clause-history g c =
-    let p = err_from_is_err_and c.from_residual-in_err-judge.result c.from_residual-in_err-judge.ensures.1 in
-    rw (p.1, p.2)
-    (judge_keeps c.args.snapshot c.in_ok-schema.schema c.in_err-judge.field-0.0 (g.F.FileStore.seen c.args.store.now)
-    (g.F.FileStore.seen c.read_table_schema.new.store) c.in_err-judge.ensures.unbuilt c.in_ok-schema.ensures.history)
-
 pub returns-clause-beside : goal.returns-clause-beside
 returns-clause-beside g c =
     scanned_beside c.args.snapshot c.in_ok-schema.schema c.scan_table.result (g.F.FileStore.seen c.args.store.now)
@@ -47,11 +26,11 @@ returns-clause-beside g c =
 pub returns-clause-trace : goal.returns-clause-trace
 returns-clause-trace g c =
     scanned_trace c.args.snapshot c.in_ok-schema.schema (text_in c.scan_table.result) (g.F.FileStore.seen c.args.store.now)
-    (g.F.FileStore.seen c.scan_table.new.store) c.in_ok-judge.ensures.built
+    (g.F.FileStore.seen c.scan_table.new.store) c.in_ok-schema.ensures.declared
     (c.scan_table.ensures.trace (g.F.FileStore.seen c.args.store.now) c.in_ok-schema.ensures.trace)
 
 pub returns-clause-history : goal.returns-clause-history
 returns-clause-history g c =
     scanned_keeps c.args.snapshot c.in_ok-schema.schema (text_in c.scan_table.result) (g.F.FileStore.seen c.args.store.now)
-    (g.F.FileStore.seen c.scan_table.new.store) c.in_ok-judge.ensures.built
+    (g.F.FileStore.seen c.scan_table.new.store) c.in_ok-schema.ensures.declared
     (c.scan_table.ensures.history (g.F.FileStore.seen c.args.store.now) c.in_ok-schema.ensures.trace)

@@ -1,6 +1,6 @@
 use Rattle.std.proofs.lemmas.Result.{err_from_is_err_and}
-use Rattle.pm_command_consumers.proofs.ConsumerLaws.{judge_beside, judge_keeps, judge_refused, listed_beside, listed_keeps, listed_trace, read_beside, read_keeps, read_refused}
-use Rattle.pm_command_consumers.proofs.consumers.list_built.Goals as goal
+use Rattle.pm_command_consumers.proofs.ConsumerLaws.{listed_beside, listed_keeps, listed_trace, read_beside, read_keeps, read_refused}
+use Rattle.pm_command_consumers.proofs.consumers.list_all.Goals as goal
 
 pub returns-in_err-schema-clause-trace : goal.returns-in_err-schema-clause-trace
 returns-in_err-schema-clause-trace g c =
@@ -23,31 +23,10 @@ returns-in_err-schema-clause-history g c =
     (read_keeps c.in_err-schema.field-0.0 (g.F.FileStore.seen c.args.store.now) (g.F.FileStore.seen c.read_table_schema.new.store)
     c.in_err-schema.ensures.history)
 
-pub returns-in_err-judge-clause-trace : goal.returns-in_err-judge-clause-trace
-returns-in_err-judge-clause-trace g c =
-    let p = err_from_is_err_and c.from_residual-in_err-judge.result c.from_residual-in_err-judge.ensures.1 in
-    rw (p.1, p.2)
-    (judge_refused c.in_ok-schema.schema c.in_err-judge.field-0.0 (g.F.FileStore.seen c.args.store.now)
-    (g.F.FileStore.seen c.read_table_schema.new.store) c.in_err-judge.ensures.unbuilt c.in_ok-schema.ensures.trace)
-
-pub returns-in_err-judge-clause-beside : goal.returns-in_err-judge-clause-beside
-returns-in_err-judge-clause-beside g c =
-    let p = err_from_is_err_and c.from_residual-in_err-judge.result c.from_residual-in_err-judge.ensures.1 in
-    rw (p.1, p.2)
-    (judge_beside c.in_ok-schema.schema c.in_err-judge.field-0.0 (g.F.FileStore.seen c.args.store.now)
-    (g.F.FileStore.seen c.read_table_schema.new.store) c.in_err-judge.ensures.unbuilt c.in_ok-schema.ensures.beside)
-
-pub returns-in_err-judge-clause-history : goal.returns-in_err-judge-clause-history
-returns-in_err-judge-clause-history g c =
-    let p = err_from_is_err_and c.from_residual-in_err-judge.result c.from_residual-in_err-judge.ensures.1 in
-    rw (p.1, p.2)
-    (judge_keeps c.in_ok-schema.schema c.in_err-judge.field-0.0 (g.F.FileStore.seen c.args.store.now)
-    (g.F.FileStore.seen c.read_table_schema.new.store) c.in_err-judge.ensures.unbuilt c.in_ok-schema.ensures.history)
-
 pub returns-clause-trace : goal.returns-clause-trace
 returns-clause-trace g c =
     listed_trace c.in_ok-schema.schema c.list_consumers.result (g.F.FileStore.seen c.args.store.now) (g.F.FileStore.seen c.read_table_schema.new.store)
-    (g.F.FileStore.seen c.list_consumers.new.store) c.in_ok-judge.ensures.built c.in_ok-schema.ensures.trace c.list_consumers.ensures.trace
+    (g.F.FileStore.seen c.list_consumers.new.store) c.in_ok-schema.ensures.declared c.in_ok-schema.ensures.trace c.list_consumers.ensures.trace
 
 pub returns-clause-beside : goal.returns-clause-beside
 returns-clause-beside g c =
