@@ -1,14 +1,13 @@
 -- The refusals of the lines of a draft.
-use Rattle.std.proofs.Common.{◌==◌, ℕ, ℤ, List, [], ◌∷◌, Option, None, Some, IfSome, Result, Ok, Err, IfErr, refl, inr}
+use Rattle.std.proofs.Common.{ℕ, ℤ, List, Option, None, Some, IfSome, Result, Ok, Err, IfErr, refl, inr}
 use Rattle.pm_options.specs.Faults.{judged}
 use Rattle.pm_schema.specs.Faults.{IsDraftFault}
 use Rattle.pm_schema.specs.Reading.{draft_of}
 use Rattle.pm_schema.specs.declared.schema.TableSchema.{TableSchema}
-use Rattle.pm_schema.proofs.Facts.{step_fault, judged_fault, cond_fault, or_fault, draft_faults}
+use Rattle.pm_schema.proofs.Facts.{step_fault, judged_fault, draft_faults}
 use Rattle.pm_values.specs.declared.refusal.Refusal.{Refusal}
 use Rattle.pm_values.specs.declared.refusal.Refusal.TheVariants as refusals
-use Rattle.pm_draft.specs.Built.{unbuilt, unbuilt_bucket, unbuilt_partition}
-use Rattle.pm_draft.specs.Draft.{NumberedLine, draft_in, draft_line, form_fault, later_fault, later_line, unless_later}
+use Rattle.pm_draft.specs.Draft.{NumberedLine, draft_in, draft_line, form_fault, later_fault, later_line}
 
 abbrev P : Refusal → Type 0
 P = IsDraftFault
@@ -22,23 +21,12 @@ later_is : (later : Option ℕ) → IfSome (later_fault later) P
 later_is None = tt
 later_is (Some number) = (inr refl, refl)
 
-partition_is : (names : List (List ℕ)) → IfSome (unbuilt_partition names) P
-partition_is [] = tt
-partition_is (name ∷ names) = tt
-
-unbuilt_is : (s : TableSchema) → IfSome (unbuilt s) P
-unbuilt_is s =
-    or_fault P (unbuilt_bucket s.options.bucket) (unbuilt_partition s.partition)
-    (cond_fault P (s.options.bucket == 1) None _ tt tt) (partition_is s.partition)
-
 pub lines_are : (lines : List NumberedLine) (origin : List ℕ) (now : ℤ) → IfErr (draft_in lines origin now) P
 unfolding draft_in
 lines_are lines origin now =
     let reading = draft_of (draft_line lines) origin now in
     let later = later_line lines in
     let read = draft_faults (draft_line lines) origin now in
-    step_fault P (unless_later later reading) _
-    (step_fault P (judged (form_fault reading)) _ (judged_fault P (form_fault reading) (form_is reading read))
+    step_fault P (judged (form_fault reading)) _ (judged_fault P (form_fault reading) (form_is reading read))
     (λ form. step_fault P (judged (later_fault later)) _ (judged_fault P (later_fault later) (later_is later))
-    (λ alone. read)))
-    (λ s. step_fault P (judged (unbuilt s)) _ (judged_fault P (unbuilt s) (unbuilt_is s)) (λ built. tt))
+    (λ alone. read))

@@ -1,4 +1,3 @@
-pub mod BuiltLemmas
 mod FaultLemmas
 mod InputLemmas
 mod LineLemmas

@@ -9,7 +9,6 @@ use Rattle.pm_schema.specs.declared.schema.TableSchema.{TableSchema}
 use Rattle.pm_values.specs.declared.refusal.Refusal.{Refusal}
 use Rattle.pm_values.specs.declared.refusal.Refusal.TheVariants as refusals
 use Rattle.pm_values.specs.declared.refusal.Why.TheVariants as whys
-use Rattle.pm_draft.specs.Built.{IsBuilt, unbuilt}
 
 -- a line that isn't blank, with its number from 1 among all lines
 abbrev pub NumberedLine : Type 0
@@ -47,17 +46,13 @@ unless_later later reading = do
   alone ← judged (later_fault later)
   reading
 
--- the schema of a draft: its form, later lines, what else it is refused for, and what isn't built
+-- the schema of a draft: its form, later lines, and what else it is refused for
 unfoldable pub draft_in : List NumberedLine → List ℕ → ℤ → Result TableSchema Refusal
-draft_in lines origin now = do
-  s ← unless_later (later_line lines) (draft_of (draft_line lines) origin now)
-  built ← judged (unbuilt s)
-  Ok s
+draft_in lines origin now = unless_later (later_line lines) (draft_of (draft_line lines) origin now)
 
--- a schema that a draft can have: the first of a table with that origin, made at that moment, and built
+-- a schema that a draft can have: the first of a table with that origin, made at that moment
 pub record IsFirstSchema (origin : List ℕ) (now : ℤ) (s : TableSchema) : Type 0 where
   pub declared : IsDeclared s
   pub id : s.id ≡ 0
   pub origin_is : s.origin ≡ Some origin
   pub time : s.time ≡ now
-  pub built : IsBuilt s

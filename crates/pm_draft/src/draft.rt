@@ -6,7 +6,6 @@ ghost use Rattle.pm_schema.specs.declared.schema.TableSchema.{TableSchema};
 ghost use Rattle.pm_values.specs.declared.refusal.Refusal.{Refusal};
 ghost use Rattle.pm_draft.specs.Draft.{comes_first, draft_in, draft_line, later_fault, later_line, unless_later};
 
-use crate::built::judge_built;
 use pm_input::InputLines;
 use pm_schema::TableSchema;
 use pm_schema_file::read_draft;
@@ -24,9 +23,7 @@ pub(crate) fn read_draft_lines(
     ensures exact { Answers (λ s. s) result (draft_in lines.now origin now_millis) }
 {
     let reading = read_draft(alloc, draft_line(lines), origin, now_millis);
-    let schema = unless_later(alloc, later_line(lines), reading)?;
-    judge_built(alloc, &schema)?;
-    Ok(schema)
+    unless_later(alloc, later_line(lines), reading)
 }
 
 /// The draft of the lines, or nothing.

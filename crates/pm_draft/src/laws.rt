@@ -7,26 +7,19 @@ ghost use Rattle.std.specs.List.{AllByRecursion};
 ghost use Rattle.pm_input.specs.Blank.{is_blank};
 ghost use Rattle.pm_input.specs.Lines.{numbered_rows};
 ghost use Rattle.pm_schema.specs.declared.schema.TableSchema.{TableSchema};
-ghost use Rattle.pm_draft.specs.Built.{IsBuilt, unbuilt};
 ghost use Rattle.pm_draft.specs.Draft.{NumberedLine, draft_in, draft_line, later_line, IsFirstSchema};
 
 use pm_schema::{declared_law, draft_law};
 
 /// A schema that a draft has is one that a draft can declare, the first of a table with the given origin, made at the
-/// given moment, and built.
+/// given moment.
 pub fn first_schema_law()
     ensures { (lines : List NumberedLine) (origin : List ℕ) (now : ℤ) (s : TableSchema) → FitsSigned w64 now
         → draft_in lines origin now ≡ Ok s → IsFirstSchema origin now s }
 {
     draft_law();
     declared_law();
-    built_law();
 }
-
-/// A schema is refused as not built exactly where it isn't.
-pub fn built_law()
-    ensures { (s : TableSchema) → (unbuilt s ≡ None) ↔ IsBuilt s }
-{}
 
 /// Of the lines of an input, the draft is the first, or the empty text where that is blank or there is none. The first
 /// of the others that isn't blank is the later line, and there is none where all of them are blank.
