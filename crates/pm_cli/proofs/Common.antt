@@ -1,7 +1,5 @@
 -- Of files that a store leaves, and of what is known of an execution.
-use Rattle.std.proofs.Common.{◌≡◌, ◌≢◌, ◌≤◌, ◌+◌, ℕ, suc, nat_lt, Bool, true, false, if◌then◌else◌, List, [], ◌∷◌, ◌++◌, length, Option, None, Some, IsSomeAnd, ◌==◌, ◌⊎◌, codes, decimal, inl, inr, refl, sym, subst, ap, ◌∙◌, length-append, take_all, arith}
-use Rattle.std.specs.List.{AllByRecursion}
-use Rattle.std.specs.Option.{option_or}
+use Rattle.std.proofs.Common.{◌≡◌, ◌≢◌, ◌≤◌, ◌+◌, ℕ, suc, nat_lt, Bool, true, false, List, [], ◌∷◌, ◌++◌, length, Option, None, Some, IsSomeAnd, inl, inr, refl, sym, subst, ap, ◌∙◌, length-append, take_all, arith}
 use Rattle.std.proofs.lemmas.Bool.Decides.{nat_tests}
 use Rattle.pm_values.specs.declared.refusal.Refusal.{Refusal}
 use Rattle.pm_values.specs.declared.refusal.Refusal.TheVariants as refusals
@@ -13,19 +11,14 @@ use Rattle.pm_store.proofs.ImageLaws.{Extends-weaker}
 use Rattle.pm_model_history.specs.History.{Entry, History, no_table, table}
 use Rattle.pm_schema.specs.declared.schema.TableSchema.{TableSchema}
 use Rattle.pm_snapshot.specs.Names.{greatest}
-use Rattle.pm_model_folder.specs.Changes.{Actor, HavePlainNames, IsPlain, origin_name}
+use Rattle.pm_model_folder.specs.Changes.{Actor, origin_name}
 use Rattle.pm_model_folder.specs.Folder.{HasTable, HaveSettled, KeepsConsumers}
 use Rattle.pm_create.specs.Making.{LeavesFiles}
-use Rattle.pm_draft.specs.Built.{IsBuilt, unbuilt, unbuilt_bucket, unbuilt_partition}
 use Rattle.pm_words.specs.declared.command.Command.{Command}
 use Rattle.pm_command.specs.Outside.{actor}
 use Rattle.pm_command.specs.declared.start.Start.{Start}
 use Rattle.pm_cli.specs.Promise.{Does, Execution, HasMade, MayMake, StandsForOthers, commits, compacts, consumes, creates, drops, follows, found_by, has_already, expires, expires_none, lists, lists_consumers, rests, scans, takes_none}
 use Rattle.pm_cli.specs.Start.{HaveOtherNames, IsNew, LeavesOut, snapshot_made}
-
--- no column of a table that is built cuts it in parts, so none has a name that isn't plain
-pub plain_names : (s : TableSchema) → IsBuilt s → HavePlainNames s
-plain_names s built = subst (AllByRecursion IsPlain) (sym built.partition) tt
 
 -- the execution with this command in its place
 abbrev pub with_command : Command → Execution → Execution
@@ -186,13 +179,6 @@ StandsForSomeFreely e h first f = (later : History) × MayMake e h later × Stan
 abbrev pub WasNew : Execution → History → StoreView → Actor → Type 0
 WasNew e h first other = HaveOtherNames (actor e.start) other × LeavesFiles (IsNew other h) first
 
-abbrev IsUnsupported : Refusal → Type 0
-IsUnsupported (refusals.Unsupported what text) = Unit {0}
-IsUnsupported other = ⊥
-
-some_of : (one other : Refusal) → Some one ≡ Some other → one ≡ other
-some_of one other is = cc
-
 -- ---- the snapshot that was made
 
 -- none, where the history stays
@@ -208,33 +194,6 @@ one_made s es e id is =
     let count : length (es ++ e ∷ []) ≡ length es + 1 = length-append es (e ∷ []) in
     let more : nat_lt (length es) (length (es ++ e ∷ [])) ≡ true = grind (arith, nat_tests, count) in
     ap Some (is ∙ sym count) ∙ ap (λ (b : Bool). if b then Some (length (es ++ e ∷ [])) else None) (sym more)
-
--- no table is refused by a fault of the sink
-not_bucket : (n : ℕ) (e : Refusal) → unbuilt_bucket n ≡ Some e → IsUnsupported e
-not_bucket n e = by (n == 1)
-  where
-    by : (one : Bool) → (if one then None else Some (refusals.Unsupported (codes "bucket") (decimal n))) ≡ Some e → IsUnsupported e
-    by true is = cc
-    by false is = subst IsUnsupported (some_of _ e is) tt
-
-not_partition : (names : List (List ℕ)) (e : Refusal) → unbuilt_partition names ≡ Some e → IsUnsupported e
-not_partition [] e is = cc
-not_partition (name ∷ names) e is = subst IsUnsupported (some_of _ e is) tt
-
-either_of : (o p : Option Refusal) (e : Refusal) → option_or o p ≡ Some e → (o ≡ Some e) ⊎ (p ≡ Some e)
-either_of None p e is = inr is
-either_of (Some d) p e is = inl is
-
-unsupported : (s : TableSchema) (e : Refusal) → unbuilt s ≡ Some e → IsUnsupported e
-unsupported s e is =
-    elim (either_of (unbuilt_bucket s.options.bucket) (unbuilt_partition s.partition) e is) as (λ _. IsUnsupported e) [
-      | inl bucket ↦ not_bucket s.options.bucket e bucket
-      | inr partition ↦ not_partition s.partition e partition
-    ]
-
-pub schema_not : (s : TableSchema) (snapshot : Option ℕ) → (refusals.SinkFault snapshot ≡ refusals.Memory) ⊎ (unbuilt s ≡ Some (refusals.SinkFault snapshot)) → ⊥
-schema_not s snapshot (inl memory) = cc
-schema_not s snapshot (inr why) = unsupported s (refusals.SinkFault snapshot) why
 
 pub sink_same : (one other : Option ℕ) → refusals.SinkFault one ≡ refusals.SinkFault other → one ≡ other
 sink_same one other is = cc

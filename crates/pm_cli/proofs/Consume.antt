@@ -11,7 +11,9 @@ use Rattle.pm_store.specs.Files.{Files}
 use Rattle.pm_store.specs.Images.{Extends}
 use Rattle.pm_store.specs.Store.{StoreView}
 use Rattle.pm_store.proofs.ImageLaws.{Extends-weaker}
+use Rattle.pm_schema.specs.Again.{IsDeclared}
 use Rattle.pm_schema.specs.declared.schema.TableSchema.{TableSchema}
+use Rattle.pm_partitions.proofs.Plain.{plain_names}
 use Rattle.pm_model_consumers.specs.Claims.{Said, known_at, new_at}
 use Rattle.pm_model_history.specs.History.{Entry, History, no_table, table}
 use Rattle.pm_model_folder.specs.Changes.{Actor, HavePlainNames}
@@ -22,7 +24,6 @@ use Rattle.pm_model_folder.specs.Paths.{consumer_path, snapshot_path}
 use Rattle.pm_model_folder.proofs.BesideLemmas.{needs-no_consumer}
 use Rattle.pm_model_folder.proofs.HoldLemmas.{SameContents}
 use Rattle.pm_create.specs.Making.{LeavesFiles}
-use Rattle.pm_draft.specs.Built.{IsBuilt}
 use Rattle.pm_words.specs.declared.command.Command.TheVariants as commands
 use Rattle.pm_command.specs.Outside.{HaveSame}
 use Rattle.pm_command_consume.specs.Alone.{AnswersNone, AnswersTable, Beginning, Begins, BreaksOff, ConsumesFrom, HasJoined, IsImage, IsWithin, PrintsFrames, Refuses, RefusesNone, Stage, StandsAt, Stops, breaks_off, frames_at, fresh, in_frame, in_table, names_with, passed, printed_at, prints, refuses, settled_at, settled_in, start_after, start_at, stops, untouched}
@@ -32,7 +33,7 @@ use Rattle.pm_command_follow.proofs.TextLemmas.{and_then_twice, follow_split, te
 use Rattle.pm_cli.specs.InTurn.{IsExecuted}
 use Rattle.pm_cli.specs.Promise.{ArePrinted, MayBecome, Does, Execution, HasMade, Keeps, KeepsIt, LeavesOwn, StopsOwn, StandsForOthers, consumes, found_by}
 use Rattle.pm_cli.specs.Start.{IsNew, PrintsPieces, consumed_text, frames_after, pieces_of}
-use Rattle.pm_cli.proofs.Common.{NotSink, StandsForSomeFreely, any_both, any_here, extends_each, extends_end, leaves_both, leaves_weaker, makes_nothing, plain_names, none_made, with_command}
+use Rattle.pm_cli.proofs.Common.{NotSink, StandsForSomeFreely, any_both, any_here, extends_each, extends_end, leaves_both, leaves_weaker, makes_nothing, none_made, with_command}
 use Rattle.pm_cli.proofs.Resting.{SameStarts, new_same, resting}
 
 -- ---- what a file says
@@ -197,19 +198,19 @@ module _ (from : Option ℕ) (name : List ℕ) (full : Bool) (e : Execution) whe
           )
 
       written : SameContents → (other : Actor) (g : Files) → Folder g h → ((path : List ℕ) → path ≢ consumer_path name → map.get g path ≡ map.get f path)
-          → IsBuilt s → IsNew other h f → IsNew other h g
-      written law other g stands only built new = record {
+          → IsDeclared s → IsNew other h f → IsNew other h g
+      written law other g stands only declared new = record {
         folder = stands;
         origin = new.origin;
         names = λ t id path is low high named by.
             new.names t id path is low high
-            (names-back law g only t (subst HavePlainNames is (plain_names s built)) id path named) by;
+            (names-back law g only t (subst HavePlainNames is (plain_names s declared)) id path named) by;
       }
 
       new-at : SameStarts → SameContents → (other : Actor) (stage : Stage) (g : Files) → StandsAt c b stage g → IsNew other h f → IsNew other h g
       new-at starts law other untouched g stands new = new_same starts other h f g new (all-same g stands) stands.folder
-      new-at starts law other fresh g stands new = written law other g stands.folder stands.only stands.built new
-      new-at starts law other (passed count) g stands new = written law other g stands.folder stands.only stands.built new
+      new-at starts law other fresh g stands new = written law other g stands.folder stands.only stands.declared new
+      new-at starts law other (passed count) g stands new = written law other g stands.folder stands.only stands.declared new
 
       -- who was settled is
       of-names : (stage : Stage) (known : Option ℕ) (names : List (List ℕ)) (g : Files) → HaveSettled g h (names_with stage known name names) → HaveSettled g h names

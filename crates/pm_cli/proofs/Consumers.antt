@@ -15,7 +15,7 @@ use Rattle.pm_command.specs.Outside.{Prints}
 use Rattle.pm_command_consumers.specs.Consumers.{AnswersHistory, DidConsumers, ListsConsumers, text_of}
 use Rattle.pm_cli.specs.InTurn.{IsExecuted}
 use Rattle.pm_cli.specs.Promise.{Does, Execution, Keeps, HasMade, found_by, lists_consumers}
-use Rattle.pm_cli.proofs.Common.{makes_nothing, none_made, schema_not, sink_same, with_command}
+use Rattle.pm_cli.proofs.Common.{makes_nothing, none_made, sink_same, with_command}
 use Rattle.pm_cli.proofs.Resting.{SameStarts, resting, unprinted}
 
 does : (e : Execution) (h : History) (consumers : List NamedConsumer) → h ≢ no_table → LeavesFiles (λ f. AreConsumersOf f consumers) (found_by e)
@@ -25,10 +25,9 @@ does e (table s es) consumers some are = lists_consumers s es consumers are
 
 -- no calls of a listing show a fault of the sink
 not_shown : (own : List Event) (snapshot : Option ℕ) → DidConsumers (Err (refusals.SinkFault snapshot)) own → ⊥
-not_shown own snapshot (inl (inl shows)) = shows
-not_shown own snapshot (inl (inr (s, why, has))) = schema_not s snapshot why
-not_shown own snapshot (inr (s, earlier, later, built, has, inl shows, at)) = shows
-not_shown own snapshot (inr (s, earlier, later, built, has, inr (memory, consumers, listed), at)) = let no : refusals.SinkFault snapshot ≡ refusals.Memory = memory in cc
+not_shown own snapshot (inl shows) = shows
+not_shown own snapshot (inr (s, earlier, later, declared, has, inl shows, at)) = shows
+not_shown own snapshot (inr (s, earlier, later, declared, has, inr (memory, consumers, listed), at)) = let no : refusals.SinkFault snapshot ≡ refusals.Memory = memory in cc
 
 none_named : (made : Listing) (own : List Event) (before after : SinkView) (snapshot : Option ℕ) → DidConsumers made own
     → Prints (text_of made) None (result_err made) before after (Some (refusals.SinkFault snapshot)) → snapshot ≡ None

@@ -26,8 +26,7 @@ use Rattle.pm_create.specs.Making as making
 use Rattle.pm_create.specs.Making.{DidMake, LeavesFiles}
 use Rattle.pm_create.specs.Trace.{Shows}
 use Rattle.pm_commit.specs.AllCalls.{NamesNone}
-use Rattle.pm_draft.specs.Built.{unbuilt}
-use Rattle.pm_draft.specs.Draft.{NumberedLine, draft_in, draft_line, form_fault, later_fault, later_line, unless_later}
+use Rattle.pm_draft.specs.Draft.{NumberedLine, draft_in, draft_line, form_fault, later_fault, later_line}
 use Rattle.pm_draft.specs.Input.{MayRefuseDraft}
 use Rattle.pm_words.specs.declared.command.Command.TheVariants as commands
 use Rattle.pm_command.specs.Outside.{Outside, Prints, actor}
@@ -140,13 +139,8 @@ unfolding draft_in
 drafted lines origin now s is =
     let reading = draft_of (draft_line lines) origin now in
     let later = later_line lines in
-    let first = step_ok (unless_later later reading) (λ t. judged (unbuilt t) >>= λ built. Ok t) s is in
-    let t = first.0 in
-    let built = step_ok (judged (unbuilt t)) (λ built. Ok t) s first.2 in
-    let same : t ≡ s = let last = built.2 in cc in
-    let form = step_ok (judged (form_fault reading)) (λ form. judged (later_fault later) >>= λ alone. reading) t first.1 in
-    let alone = step_ok (judged (later_fault later)) (λ alone. reading) t form.2 in
-    subst (λ t. reading ≡ Ok t) same alone.2
+    let form = step_ok (judged (form_fault reading)) (λ form. judged (later_fault later) >>= λ alone. reading) s is in
+    (step_ok (judged (later_fault later)) (λ alone. reading) s form.2).2
 
 -- the origin that it names bears the name of its creator
 names_origin : DraftLaw → (start : Start) (bytes : List ℕ) (s : TableSchema) → IsDraftOf start bytes s → s.origin ≡ Some (origin_name (actor start))

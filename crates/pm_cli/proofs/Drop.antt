@@ -28,7 +28,7 @@ use Rattle.pm_command_consumers.specs.Drop.{AnswersHistory, DidRemove, Drops, Dr
 use Rattle.pm_cli.specs.InTurn.{IsExecuted}
 use Rattle.pm_cli.specs.Promise.{MayBecome, Does, Execution, HasMade, Keeps, KeepsIt, StandsForOthers, drops, found_by}
 use Rattle.pm_cli.specs.Start.{IsNew, MayTake}
-use Rattle.pm_cli.proofs.Common.{StandsForSomeFreely, any_both, any_files, extends_each, extends_end, images_turned, leaves_both, leaves_turned, leaves_weaker, makes_nothing, none_made, schema_not, sink_same, with_command}
+use Rattle.pm_cli.proofs.Common.{StandsForSomeFreely, any_both, any_files, extends_each, extends_end, images_turned, leaves_both, leaves_turned, leaves_weaker, makes_nothing, none_made, sink_same, with_command}
 use Rattle.pm_cli.proofs.Resting.{unprinted}
 
 module _ (name : List ℕ) (e : Execution) where
@@ -44,9 +44,8 @@ module _ (name : List ℕ) (e : Execution) where
 
   -- no calls show a fault of the sink
   not_shown : (own : List Event) (snapshot : Option ℕ) → DidRemove name (Err (refusals.SinkFault snapshot)) own → ⊥
-  not_shown own snapshot (inl (inl shows)) = shows
-  not_shown own snapshot (inl (inr (s, why, has))) = schema_not s snapshot why
-  not_shown own snapshot (inr (s, earlier, later, built, has, shows, at)) = shows
+  not_shown own snapshot (inl shows) = shows
+  not_shown own snapshot (inr (s, earlier, later, declared, has, shows, at)) = shows
 
   none_named : (made : Result Bool Refusal) (own : List Event) (before after : SinkView) (snapshot : Option ℕ) → DidRemove name made own
       → Prints (text_of made) None (result_err made) before after (Some (refusals.SinkFault snapshot)) → snapshot ≡ None

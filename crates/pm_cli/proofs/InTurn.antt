@@ -9,7 +9,9 @@ use Rattle.pm_store.specs.Files.{Files, after_from, after_op, files_after}
 use Rattle.pm_store.specs.Images.{CrashImage, Extends}
 use Rattle.pm_store.specs.Store.{StoreView, IsAlone, at_first_own}
 use Rattle.pm_input.specs.Lines.{row_lines}
+use Rattle.pm_schema.specs.Again.{IsDeclared}
 use Rattle.pm_schema.specs.declared.schema.TableSchema.{TableSchema}
+use Rattle.pm_partitions.proofs.Plain.{plain_names}
 use Rattle.pm_model_history.specs.History.{Entry, History, no_table, rows_up_to, table}
 use Rattle.pm_model_history.specs.Merge.{HistoryRow}
 use Rattle.pm_model_history.specs.Merged.{scan_text}
@@ -23,7 +25,6 @@ use Rattle.pm_model_folder.proofs.PathLemmas.{consumer-own, consumer-schema, con
 use Rattle.pm_create.specs.Making.{LeavesFiles}
 use Rattle.pm_write.specs.Taken.{all_taken}
 use Rattle.pm_expire.specs.AllCalls.{IsGivenBack, its_file, its_floor, its_snapshot}
-use Rattle.pm_draft.specs.Built.{IsBuilt}
 use Rattle.pm_words.specs.declared.command.Command.{Command}
 use Rattle.pm_words.specs.declared.command.Command.TheVariants as commands
 use Rattle.pm_command.specs.Outside.{actor}
@@ -34,7 +35,7 @@ use Rattle.pm_command_write.specs.Write.{entry_by, writer_of}
 use Rattle.pm_cli.specs.InTurn.{AreInTurn, Ending, HaveOwnNames, IsExecuted, HandsOn, MakeInTurn, MakesBy, Turn, ended, others_op, seen_by_another, stopped, to_its_end}
 use Rattle.pm_cli.specs.Promise.{Does, Execution, HasMade, Keeps, KeepsIt, MayBecome, MayMake, ExpiresAt, StandsForOthers, commits, creates, found_by, has_already, scans, takes_none}
 use Rattle.pm_cli.specs.Start.{HaveOtherNames, IsNew, IsOfSnapshots, MayAdd, MayExpire, MayStart, MayTake, MayWrite}
-use Rattle.pm_cli.proofs.Common.{StandsForSomeFreely, any_both, leaves_some, leaves_weaker, plain_names}
+use Rattle.pm_cli.proofs.Common.{StandsForSomeFreely, any_both, leaves_some, leaves_weaker}
 use Rattle.pm_cli.proofs.First.{acts_goes_on, first_same, from_before}
 
 -- what the law of every command says, and that of actors that are new
@@ -140,16 +141,16 @@ pub still_settled : (names : List (List ℕ)) (e : Execution) (h : History) (fir
 still_settled names e h first later f stands others was = stands.settled names (λ name there takes. absurd (others name there takes)) was
 
 -- what goes with snapshots is a snapshot's, one that snapshots name, or a floor
-pub given-back : (s : TableSchema) (g : Files) (end : ℕ) (path : List ℕ) → IsBuilt s → IsGivenBack s g end path → IsOfSnapshots path
-given-back s g end path built (its_snapshot id below is) = inl (s, id, plain_names s built, inl is)
-given-back s g end path built (its_file id low below names spared) = inl (s, id, plain_names s built, inr (g, names))
-given-back s g end path built (its_floor n below is) = inr (n, is)
+pub given-back : (s : TableSchema) (g : Files) (end : ℕ) (path : List ℕ) → IsDeclared s → IsGivenBack s g end path → IsOfSnapshots path
+given-back s g end path declared (its_snapshot id below is) = inl (s, id, plain_names s declared, inl is)
+given-back s g end path declared (its_file id low below names spared) = inl (s, id, plain_names s declared, inr (g, names))
+given-back s g end path declared (its_floor n below is) = inr (n, is)
 
 -- an expiry takes nothing else
 forgotten : (command : Command) (start : Start) (h : History) (g f : Files) (path bytes : List ℕ) → map.get g path ≡ Some bytes → ExpiresAt command start h g f path
     → MayExpire command path
-forgotten (commands.Expire min max millis) start h g f path bytes there (s, is, built, (first, end, goes, inl (gone, given))) = given-back s g end path built given
-forgotten (commands.Expire min max millis) start h g f path bytes there (s, is, built, (first, end, goes, inr (absent, floor))) =
+forgotten (commands.Expire min max millis) start h g f path bytes there (s, is, declared, (first, end, goes, inl (gone, given))) = given-back s g end path declared given
+forgotten (commands.Expire min max millis) start h g f path bytes there (s, is, declared, (first, end, goes, inr (absent, floor))) =
     absurd (let clash : Some bytes ≡ None = sym there ∙ absent in cc)
 forgotten commands.Create start h g f path bytes there never = absurd never
 forgotten (commands.Scan at) start h g f path bytes there never = absurd never
@@ -214,8 +215,8 @@ spares-consumers (commands.Write user number) name never = never
 -- an expiry makes none
 forgets-none : (command : Command) (start : Start) (h : History) (g f : Files) (name : List ℕ) → ExpiresAt command start h g f (consumer_path name)
     → map.get f (consumer_path name) ≡ None
-forgets-none (commands.Expire min max millis) start h g f name (s, is, built, (first, end, goes, inl (gone, given))) = gone
-forgets-none (commands.Expire min max millis) start h g f name (s, is, built, (first, end, goes, inr (absent, floor))) = absurd (floor-consumer end name (sym floor))
+forgets-none (commands.Expire min max millis) start h g f name (s, is, declared, (first, end, goes, inl (gone, given))) = gone
+forgets-none (commands.Expire min max millis) start h g f name (s, is, declared, (first, end, goes, inr (absent, floor))) = absurd (floor-consumer end name (sym floor))
 forgets-none commands.Create start h g f name never = absurd never
 forgets-none (commands.Scan at) start h g f name never = absurd never
 forgets-none commands.Snapshots start h g f name never = absurd never

@@ -11,6 +11,7 @@ use Rattle.pm_io.specs.Sink.{SinkView, TookPrefix}
 use Rattle.pm_store.specs.Files.{Files}
 use Rattle.pm_store.specs.Store.{StoreView, IsAlone}
 use Rattle.pm_schema.specs.declared.schema.TableSchema.{TableSchema}
+use Rattle.pm_partitions.proofs.Plain.{plain_names}
 use Rattle.pm_snapshot.specs.Names.{greatest, snapshot_name}
 use Rattle.pm_model_history.specs.History.{Entry, History, IsTableOf, no_table, rows_up_to, table}
 use Rattle.pm_model_history.specs.Merged.{scan_text}
@@ -45,7 +46,7 @@ use Rattle.pm_cli.specs.Kept.{IsForNoLoss, IsForNoLossFollowed, IsKeptBy, Prints
 use Rattle.pm_cli.specs.Promise as promise
 use Rattle.pm_cli.specs.Promise.{Does, Execution, ExpiresAt, HasMade, KeepsIt, MayBecome, MayMake, StandsForOthers, found_by}
 use Rattle.pm_cli.specs.Start.{HasInput, LeavesOut, MayAdd, MayStart, MayTake, MayWrite, PrintsPieces, consumed_text, frames_after}
-use Rattle.pm_cli.proofs.Common.{any_both, any_here, leaves_both, leaves_each, leaves_weaker, plain_names}
+use Rattle.pm_cli.proofs.Common.{any_both, any_here, leaves_both, leaves_each, leaves_weaker}
 use Rattle.pm_cli.proofs.First.{acts_goes_on, first_same, from_before}
 use Rattle.pm_cli.proofs.InTurn.{KeepsEach, given-back, next_store, spares-consumers}
 
@@ -92,14 +93,14 @@ module _ (law : OneEnd) (min max millis : Option ℕ) (s : TableSchema) (es : Li
   -- no expiry changes it
   unchanged : (start : Start) (was f : Files) (id : ℕ) → id ≤ length es → Keeps start id was
       → ExpiresAt (commands.Expire min max millis) start (table s es) was f (snapshot_path id) → ⊥
-  unchanged start was f id within (folder, (kept, is_end, from)) (t, is, built, (first, end, goes, inl (gone, given))) =
+  unchanged start was f id within (folder, (kept, is_end, from)) (t, is, declared, (first, end, goes, inl (gone, given))) =
       let high = folder.snapshots.within in
       let other : IsEndIn (asked_by start (keep_asked min max millis) s) was end =
       subst (λ (t : TableSchema). IsEndIn (asked_by start (keep_asked min max millis) t) was end) (sym is) goes.is_end in
       let same : kept ≡ end = law (asked_by start (keep_asked min max millis) s) was kept end is_end other in
-      spared was s es id end folder (subst HavePlainNames (sym is) (plain_names t built)) (omega (arith, within, high)) (omega (arith, from, same))
+      spared was s es id end folder (subst HavePlainNames (sym is) (plain_names t declared)) (omega (arith, within, high)) (omega (arith, from, same))
       (subst (λ (t : TableSchema). IsGivenBack t was end (snapshot_path id)) (sym is) given)
-  unchanged start was f id within keeps (t, is, built, (first, end, goes, inr (absent, floor))) = floor-snapshot end (snapshot_name id) (sym floor)
+  unchanged start was f id within keeps (t, is, declared, (first, end, goes, inr (absent, floor))) = floor-snapshot end (snapshot_name id) (sym floor)
 
   module _ (e : Execution) (first : StoreView) (later : History) (f : Files) (id : ℕ) (is : e.command ≡ commands.Expire min max millis) (within : id ≤ length es)
       (stands : StandsForOthers e (table s es) first later f) where
@@ -368,10 +369,10 @@ module _ (keeps : KeepsEach) (law : KeptThere) (min max millis : Option ℕ) (ho
     scan-cause e (Some (refusals.SinkFault snapshot)) answers high there = tt
     scan-cause e (Some (refusals.Unsupported what text)) answers high there = tt
     scan-cause e (Some refusals.NoTable) none high there = is-table none
-    scan-cause e (Some (refusals.Expired gone)) (built, at, within, (t, is, none)) high there =
+    scan-cause e (Some (refusals.Expired gone)) (declared, at, within, (t, is, none)) high there =
         let same : id ≡ gone = cc in
         none-gone (found_by e) t id id gone some (omega (arith, same)) (omega (arith, same)) there none
-    scan-cause e (Some (refusals.NoSnapshot other latest)) (built, at, is, above) high there =
+    scan-cause e (Some (refusals.NoSnapshot other latest)) (declared, at, is, above) high there =
         let same : id ≡ other = cc in
         omega (arith, same, is, above, high)
     scan-cause e (Some other) never high there = never
@@ -460,13 +461,13 @@ module _ (keeps : KeepsEach) (law : KeptThere) (min max millis : Option ℕ) (ho
     follow-cause e (Some refusals.NoTable) (inr (count, took, are, never)) starts there = never
     follow-cause e (Some refusals.NoChangelog) (inl ((t, is, none), untouched)) starts there = told t is starts.0 none
     follow-cause e (Some refusals.NoChangelog) (inr (count, took, are, never)) starts there = never
-    follow-cause e (Some (refusals.Expired gone)) (inl ((built, whole, is, within, (t, same, none)), untouched)) starts there =
+    follow-cause e (Some (refusals.Expired gone)) (inl ((declared, whole, is, within, (t, same, none)), untouched)) starts there =
         let base : low ≡ from - 1 = ap (least_read from) whole in
         none-gone (found_by e) t low (length es) gone some (omega (arith, base, is)) within there none
     follow-cause e (Some (refusals.Expired gone)) (inr (count, took, are, (is, within, (t, same, none)))) starts there =
         let least = not-above full in
         none-gone (found_by e) t low (length es) (from + count) some (omega (arith, least)) within there none
-    follow-cause e (Some (refusals.NoSnapshot other latest)) (inl ((built, at, is, above), untouched)) starts there =
+    follow-cause e (Some (refusals.NoSnapshot other latest)) (inl ((declared, at, is, above), untouched)) starts there =
         let same : from ≡ other = cc in
         let high = starts.1 in
         omega (arith, same, is, above, high)
@@ -571,9 +572,9 @@ module _ (keeps : KeepsEach) (min max millis : Option ℕ) (how : Ending) (expir
       by : (map.get g (consumer_path name) ≡ map.get was (consumer_path name)) ⊎ ExpiresAt (commands.Expire min max millis) expire.start t_h was g (consumer_path name)
           → map.get g (consumer_path name) ≡ map.get was (consumer_path name)
       by (inl same) = same
-      by (inr (t, is, built, (first, end, goes, inl (gone, given)))) =
-          absurd (spares-consumers (commands.Expire min max millis) name (given-back t was end (consumer_path name) built given))
-      by (inr (t, is, built, (first, end, goes, inr (absent, floor)))) = absurd (floor-consumer end name (sym floor))
+      by (inr (t, is, declared, (first, end, goes, inl (gone, given)))) =
+          absurd (spares-consumers (commands.Expire min max millis) name (given-back t was end (consumer_path name) declared given))
+      by (inr (t, is, declared, (first, end, goes, inr (absent, floor)))) = absurd (floor-consumer end name (sym floor))
 
   takes-none : (path : List ℕ) → MayTake expire.command path → ⊥
   takes-none path takes = subst (λ (command : Command). MayTake command path) is_expire takes

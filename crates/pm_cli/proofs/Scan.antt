@@ -16,7 +16,7 @@ use Rattle.pm_command.specs.Outside.{Prints}
 use Rattle.pm_command_scan.specs.Scan.{AnswersHistory, DidScan, IsThere, PrintsPrefix, PrintsTable, Scans, text_of}
 use Rattle.pm_cli.specs.InTurn.{IsExecuted}
 use Rattle.pm_cli.specs.Promise.{Execution, Keeps, HasMade, scans}
-use Rattle.pm_cli.proofs.Common.{makes_nothing, none_made, schema_not, sink_same, with_command}
+use Rattle.pm_cli.proofs.Common.{makes_nothing, none_made, sink_same, with_command}
 use Rattle.pm_cli.proofs.Resting.{SameStarts, resting, unprinted}
 
 -- the scan of the table
@@ -26,9 +26,8 @@ text_at at s es = scan_text s (rows_up_to es (id_of at (length es)))
 -- no calls of a scan show a fault of the sink
 not_shown : (at : Option ℕ) (own : List Event) (snapshot : Option ℕ) → DidScan at (Err (refusals.SinkFault snapshot)) own → ⊥
 not_shown at own snapshot (inl shows) = shows
-not_shown at own snapshot (inr (inl (s, why, has))) = schema_not s snapshot why
-not_shown at own snapshot (inr (inr (s, built, (earlier, later, has, is, inl shows)))) = shows
-not_shown at own snapshot (inr (inr (s, built, (earlier, later, has, is, inr (v, shows))))) = shows.so
+not_shown at own snapshot (inr (s, declared, (earlier, later, has, is, inl shows))) = shows
+not_shown at own snapshot (inr (s, declared, (earlier, later, has, is, inr (v, shows)))) = shows.so
 
 none_named : (at : Option ℕ) (made : Result (List ℕ) Refusal) (own : List Event) (before after : SinkView) (snapshot : Option ℕ) → DidScan at made own
     → Prints (text_of made) None (result_err made) before after (Some (refusals.SinkFault snapshot)) → snapshot ≡ None

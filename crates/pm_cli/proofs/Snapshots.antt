@@ -30,7 +30,7 @@ use Rattle.pm_command_snapshots.specs.Snapshots.{AnswersHistory, DidSnapshots, L
 use Rattle.pm_cli.specs.InTurn.{IsExecuted}
 use Rattle.pm_cli.specs.Promise.{Does, Execution, Keeps, HasMade, found_by, lists}
 use Rattle.pm_cli.specs.Snapshots.{AreLines, LineBears}
-use Rattle.pm_cli.proofs.Common.{any_both, makes_nothing, none_made, schema_not, sink_same, with_command}
+use Rattle.pm_cli.proofs.Common.{any_both, makes_nothing, none_made, sink_same, with_command}
 use Rattle.pm_cli.proofs.Resting.{SameStarts, resting, unprinted}
 
 -- ---- what lines bear of a history
@@ -125,9 +125,8 @@ does e (table s es) lines some are stands =
 -- no calls of a listing show a fault of the sink
 not_shown : (own : List Event) (snapshot : Option ℕ) → DidSnapshots (Err (refusals.SinkFault snapshot)) own → ⊥
 not_shown own snapshot (inl shows) = shows
-not_shown own snapshot (inr (inl (s, why, has))) = schema_not s snapshot why
-not_shown own snapshot (inr (inr (s, built, from, inl shows))) = shows
-not_shown own snapshot (inr (inr (s, built, from, inr shows))) = shows
+not_shown own snapshot (inr (s, declared, from, inl shows)) = shows
+not_shown own snapshot (inr (s, declared, from, inr shows)) = shows
 
 none_named : (made : Result (List SnapshotLine) Refusal) (own : List Event) (before after : SinkView) (snapshot : Option ℕ) → DidSnapshots made own
     → Prints (text_of made) None (result_err made) before after (Some (refusals.SinkFault snapshot)) → snapshot ≡ None
