@@ -21,14 +21,12 @@ abbrev pub least_read : ℕ → Bool → ℕ
 least_read from false = from
 least_read from true = from - 1
 
--- It was refused, if it was, for what no expiry changes: as memory ran out, for a fault of the store or of the sink, or
--- of a table that isn't built.
+-- It was refused, if it was, for what no expiry changes: as memory ran out, or for a fault of the store or of the sink.
 abbrev pub IsForNoLoss : Option Refusal → Type 0
 IsForNoLoss None = Unit {0}
 IsForNoLoss (Some refusals.Memory) = Unit {0}
 IsForNoLoss (Some (refusals.StoreFault path)) = Unit {0}
 IsForNoLoss (Some (refusals.SinkFault snapshot)) = Unit {0}
-IsForNoLoss (Some (refusals.Unsupported what text)) = Unit {0}
 IsForNoLoss (Some other) = ⊥
 
 -- or, as whoever follows may be, of a table that tells no changes

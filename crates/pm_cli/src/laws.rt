@@ -368,7 +368,7 @@ pub fn kept_law()
 
 /// What `scan --snapshot` prints of a snapshot that an expiry keeps is the same before the expiry and after it, however
 /// that ended and wherever a crash stopped it: with status 0 the scan of the snapshot, else a prefix of it. The second
-/// one isn't refused, but as memory runs out, for a fault of the store or of the sink, or where the table isn't built.
+/// one isn't refused, but as memory runs out, or for a fault of the store or of the sink.
 pub fn kept_scan_law()
     ensures { (before expire after : Execution) (how : Ending) (min max millis : Option ℕ) (id : ℕ) (s : TableSchema)
         (es : List Entry) (store last : StoreView) → before.command ≡ commands.Scan (Some id) → before.refusal ≡ None
