@@ -367,7 +367,6 @@ module _ (keeps : KeepsEach) (law : KeptThere) (min max millis : Option ℕ) (ho
     scan-cause e (Some refusals.Memory) answers high there = tt
     scan-cause e (Some (refusals.StoreFault path)) answers high there = tt
     scan-cause e (Some (refusals.SinkFault snapshot)) answers high there = tt
-    scan-cause e (Some (refusals.Unsupported what text)) answers high there = absurd answers
     scan-cause e (Some refusals.NoTable) none high there = is-table none
     scan-cause e (Some (refusals.Expired gone)) (declared, at, within, (t, is, none)) high there =
         let same : id ≡ gone = cc in
@@ -456,7 +455,6 @@ module _ (keeps : KeepsEach) (law : KeptThere) (min max millis : Option ℕ) (ho
     follow-cause e (Some refusals.Memory) answers starts there = tt
     follow-cause e (Some (refusals.StoreFault path)) answers starts there = tt
     follow-cause e (Some (refusals.SinkFault snapshot)) answers starts there = tt
-    follow-cause e (Some (refusals.Unsupported what text)) answers starts there = absurd answers.0
     follow-cause e (Some refusals.NoTable) (inl (none, untouched)) starts there = is-table none
     follow-cause e (Some refusals.NoTable) (inr (count, took, are, never)) starts there = never
     follow-cause e (Some refusals.NoChangelog) (inl ((t, is, none), untouched)) starts there = told t is starts.0 none
@@ -521,7 +519,6 @@ module _ (c : Consuming) (b : Beginning) (first last : StoreView) (next : ℕ) (
   refuses-cause refusals.Memory may = tt
   refuses-cause (refusals.StoreFault path) may = tt
   refuses-cause refusals.NoChangelog may = tt
-  refuses-cause (refusals.Unsupported what text) may = absurd may
   refuses-cause (refusals.NoSnapshot id latest) (followed, new, asked, is, above, leaves) = none-some next b.known known new
   refuses-cause (refusals.BelowFloor number floor) (followed, new, is, within, most, leaves) = none-some next b.known known new
   refuses-cause (refusals.Expired id) (joined, new, whole, is, gone, leaves) = none-some next b.known known new
