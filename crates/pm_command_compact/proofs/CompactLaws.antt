@@ -1,5 +1,5 @@
 -- Laws of `compact`: what is so of its calls, and of a history.
-use Rattle.std.proofs.Common.{◌≡◌, ◌≢◌, ◌⊎◌, inl, inr, ℕ, ℤ, ◌+◌, ◌≤◌, List, [], ◌∷◌, Bool, Option, None, Some, IsSome, Result, Ok, Err, refl, sym, ap, ap₂, subst, ◌∙◌}
+use Rattle.std.proofs.Common.{◌≡◌, ◌≢◌, inl, inr, ℕ, ℤ, ◌+◌, ◌≤◌, List, [], ◌∷◌, Bool, Option, None, Some, IsSome, Result, Ok, Err, refl, sym, ap, ap₂, subst, ◌∙◌}
 use Rattle.std.specs.FinMap as map
 use Rattle.std.specs.Result.{result_err}
 use Rattle.pm_values.specs.Names.{Naming, naming}
@@ -13,6 +13,7 @@ use Rattle.pm_store.specs.Store.{StoreView, at_first_own}
 use Rattle.pm_store.proofs.ImageLaws.{Extends-weaker}
 use Rattle.pm_machine.specs.Trace.{HasTrace}
 use Rattle.pm_model_history.specs.History.{History, compaction}
+use Rattle.pm_schema.specs.Again.{IsDeclared}
 use Rattle.pm_schema.specs.declared.schema.TableSchema.{TableSchema}
 use Rattle.pm_snapshot.specs.Names.{MayName, greatest}
 use Rattle.pm_model_folder.specs.Changes.{Actor}
@@ -31,12 +32,11 @@ use Rattle.pm_compactor.specs.AllCalls.{Beginning, Chooses, GivesReason, IsNewes
 use Rattle.pm_compactor.specs.Compactor.{asking_of, chosen_in}
 use Rattle.pm_compactor.specs.declared.all_calls.Compacted.{Compacted}
 use Rattle.pm_compactor.specs.declared.all_calls.Compacted.TheVariants as compacts
-use Rattle.pm_draft.specs.Built.{IsBuilt, unbuilt}
 use Rattle.pm_command.specs.Outside.{HaveSame, Outside, actor, next_path, own_user, Prints, Rests}
 use Rattle.pm_command.specs.Table as tables
 use Rattle.pm_command.specs.declared.start.Start.{Start}
 use Rattle.pm_command_compact.specs.Compact.{AnswersHistory, Becomes, Compacts, CompactsTables, DidCompact, GivesAgainst, HasChoice, HasCompaction, HasCompactionAs, IsCompacted, IsCompactedTo, IsImage, Keeps, KeepsHistories, MakesOf, MayStartAfter, Spoils, StandsAfterFault, StandsForEither, asked_of, beginning_of, snapshot_of, text_of, with_compaction}
-use Rattle.pm_command.proofs.TableLemmas.{consumers_stay, trace_weaker, files_of, files_same, leaves_of, leaves_weaker, none_next, rests_of, images_of, caused, judged_caused}
+use Rattle.pm_command.proofs.TableLemmas.{consumers_stay, trace_weaker, files_of, files_same, leaves_of, leaves_weaker, none_next, rests_of, images_of, caused}
 
 -- ---- its calls
 
@@ -44,17 +44,18 @@ module _ (start : Start) (full : Bool) where
   pub read_refused : (e : Refusal) (before after : StoreView) → HasTrace (DidRead (Err e)) before after → HasTrace (DidCompact start full (Err e)) before after
   read_refused e before after = trace_weaker (DidRead (Err e)) (DidCompact start full (Err e)) (λ own shows. inl shows) before after
 
-  -- the schema isn't built, or memory ran out for saying so, or later
-  pub judge_refused : (s : TableSchema) (e : Refusal) (before after : StoreView) → (e ≡ refusals.Memory) ⊎ (unbuilt s ≡ Some e)
-      → HasTrace (DidRead (Ok s)) before after → HasTrace (DidCompact start full (Err e)) before after
-  judge_refused s e before after why = trace_weaker (DidRead (Ok s)) (DidCompact start full (Err e)) (λ own has. inr (inl (s, why, has))) before after
+  -- memory ran out once the schema was read
+  pub memory_refused : (s : TableSchema) (before after : StoreView) → HasTrace (DidRead (Ok s)) before after
+      → HasTrace (DidCompact start full (Err refusals.Memory)) before after
+  memory_refused s before after =
+      trace_weaker (DidRead (Ok s)) (DidCompact start full (Err refusals.Memory)) (λ own has. inr (inl (s, refl, has))) before after
 
-  pub compacted_trace : (s : TableSchema) (made : Result Compacted Refusal) (before after : StoreView) → IsBuilt s
+  pub compacted_trace : (s : TableSchema) (made : Result Compacted Refusal) (before after : StoreView) → IsDeclared s
       → HasTrace (compactor.DidCompact s (asked_of start full) made) before after → HasTrace (DidCompact start full made) before after
-  compacted_trace s (Ok done) before after built =
-      trace_weaker (compactor.DidCompact s (asked_of start full) (Ok done)) (DidCompact start full (Ok done)) (λ own did. (s, built, did)) before after
-  compacted_trace s (Err e) before after built =
-      trace_weaker (compactor.DidCompact s (asked_of start full) (Err e)) (DidCompact start full (Err e)) (λ own did. inr (inr (s, built, did))) before after
+  compacted_trace s (Ok done) before after declared =
+      trace_weaker (compactor.DidCompact s (asked_of start full) (Ok done)) (DidCompact start full (Ok done)) (λ own did. (s, declared, did)) before after
+  compacted_trace s (Err e) before after declared =
+      trace_weaker (compactor.DidCompact s (asked_of start full) (Err e)) (DidCompact start full (Err e)) (λ own did. inr (inr (s, declared, did))) before after
 
   -- ---- files that stay
 
@@ -83,7 +84,6 @@ module _ (start : Start) (full : Bool) where
   listing_spoils h first after (refusals.StoreFault path) may rests = (may, fault_left h path first after rests.folder)
   listing_spoils h first after refusals.NoTable may rests = (may, rests)
   listing_spoils h first after refusals.Memory may rests = rests.folder
-  listing_spoils h first after (refusals.Unsupported what text) may rests = (may, rests)
   listing_spoils h first after other may rests = absurd may
 
   pub read_keeps : (e : Refusal) (before after : StoreView) → ReadsTables before after (Err e) → KeepsHistories start full before after (Err e)
@@ -94,14 +94,13 @@ module _ (start : Start) (full : Bool) where
       stay_keeps h files.0 first after (Err e) files.1 files.2.0 read.files
       (λ left. listing_spoils h first after e (caused h first after e read.cause) left)
 
-  pub judge_keeps : (s : TableSchema) (e : Refusal) (before after : StoreView) → (e ≡ refusals.Memory) ⊎ (unbuilt s ≡ Some e)
-      → ReadsTables before after (Ok s) → KeepsHistories start full before after (Err e)
-  judge_keeps s e before after why reads = λ alone h begins.
+  pub memory_keeps : (s : TableSchema) (before after : StoreView) → ReadsTables before after (Ok s)
+      → KeepsHistories start full before after (Err refusals.Memory)
+  memory_keeps s before after reads = λ alone h begins.
       let first = at_first_own before after in
       let files = files_of (MayStart (actor start) h) first begins in
       let read = reads alone files.0 h files.1 files.2.0 in
-      stay_keeps h files.0 first after (Err e) files.1 files.2.0 read.files
-      (λ left. listing_spoils h first after e (judged_caused h first after s e read.schema why) left)
+      stay_keeps h files.0 first after (Err refusals.Memory) files.1 files.2.0 read.files (λ left. left.folder)
 
 -- ---- a compaction
 

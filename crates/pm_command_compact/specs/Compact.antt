@@ -15,7 +15,8 @@ use Rattle.pm_store.specs.Files.{Files}
 use Rattle.pm_store.specs.Images.{Extends}
 use Rattle.pm_store.specs.Store.{StoreView, FromFirst}
 use Rattle.pm_machine.specs.Trace.{Event, HasTrace}
-use Rattle.pm_model_history.specs.History.{History, IsTableOf, compaction, no_table}
+use Rattle.pm_model_history.specs.History.{History, compaction, no_table}
+use Rattle.pm_schema.specs.Again.{IsDeclared}
 use Rattle.pm_schema.specs.declared.schema.TableSchema.{TableSchema}
 use Rattle.pm_snapshot.specs.Names.{greatest}
 use Rattle.pm_model_folder.specs.Changes.{Actor}
@@ -25,6 +26,7 @@ use Rattle.pm_choice.specs.Choice.{named_groups}
 use Rattle.pm_plan.specs.declared.planned.Asking.{Asking}
 use Rattle.pm_create.specs.Making.{LeavesFiles}
 use Rattle.pm_read_schema.specs.Trace as reader
+use Rattle.pm_read_schema.specs.declared.phase.Phase.TheVariants as readers
 use Rattle.pm_read_table.specs.declared.view.View.{View}
 use Rattle.pm_commit.specs.AllCalls.{AddsAlone, MayStart}
 use Rattle.pm_commit.specs.Alone.{with_entry}
@@ -33,9 +35,7 @@ use Rattle.pm_compactor.specs.AllCalls.{Beginning, BearsCompaction, Chooses, Giv
 use Rattle.pm_compactor.specs.Compactor.{asking_of, chosen_in}
 use Rattle.pm_compactor.specs.declared.all_calls.Compacted.{Compacted}
 use Rattle.pm_compactor.specs.declared.all_calls.Compacted.TheVariants as compacts
-use Rattle.pm_draft.specs.Built.{IsBuilt, unbuilt}
 use Rattle.pm_command.specs.Outside.{ConsumersRest, Outside, actor, Prints, Rests, next_path, own_user}
-use Rattle.pm_command.specs.Table.{EndsAtSchema}
 use Rattle.pm_command.specs.declared.start.Start.{Start}
 
 -- ---- its calls
@@ -45,9 +45,13 @@ abbrev pub asked_of : Start → Bool → Asking
 asked_of start full =
     asking_of full (own_user (actor start)) (naming start.session (actor start).number 0) start.now_millis
 
--- they go on from the schema, which is built, and are those of a compaction with this answer
+-- they go on from the schema, which is declared, and are those of a compaction with this answer
 abbrev pub GoesOnAs : Start → Bool → Result Compacted Refusal → List Event → Type 0
-GoesOnAs start full made own = (s : TableSchema) × IsBuilt s × compactor.DidCompact s (asked_of start full) made own
+GoesOnAs start full made own = (s : TableSchema) × IsDeclared s × compactor.DidCompact s (asked_of start full) made own
+
+-- they end with the schema, since memory ran out
+abbrev pub EndsAtSchema : Refusal → List Event → Type 0
+EndsAtSchema e own = (s : TableSchema) × (e ≡ refusals.Memory) × reader.Did (readers.Ready s) own
 
 -- Its calls of the store, by what became of the table; or they show why no schema was read, or end with the schema, or
 -- later.
@@ -140,16 +144,14 @@ StandsAfterFault start full h first path f = Folder f h ⊎ ((path ≡ next_path
 
 -- What a refusal needs, and what stands after it: after a fault of the store, which was counted, the history, or where
 -- it was the publish's the history with the compaction; else the history, and but where memory ran out or a file of the
--- actor's name was met nothing changed. There is no table, or none that is built; a file of the actor's name was there
--- at first; or the newest snapshot leaves the compaction no room. No other comes: nobody else took a file that goes,
--- no fence is above the newest snapshot, and no file is damaged.
+-- actor's name was met nothing changed. There is no table; a file of the actor's name was there at first; or the newest
+-- snapshot leaves the compaction no room. No other comes: nobody else took a file that goes, no fence is above the newest
+-- snapshot, and no file is damaged.
 abbrev pub Spoils : Start → Bool → History → StoreView → StoreView → Refusal → Type 0
 Spoils start full h first after refusals.Memory = LeavesFiles (λ f. Folder f h) after
 Spoils start full h first after (refusals.StoreFault path) =
     Rose first.faults after.faults × LeavesFiles (StandsAfterFault start full h first path) after
 Spoils start full h first after refusals.NoTable = (h ≡ no_table) × Rests h first after
-Spoils start full h first after (refusals.Unsupported what text) =
-    ((s : TableSchema) × IsTableOf s h × (unbuilt s ≡ Some (refusals.Unsupported what text))) × Rests h first after
 Spoils start full h first after (refusals.SessionUsed path) =
     LeavesFiles (λ f. WasUsed (beginning_of start full h f) path) first × LeavesFiles (λ f. Folder f h) after
 Spoils start full h first after (refusals.Limit which number) =

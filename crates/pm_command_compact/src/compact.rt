@@ -8,7 +8,7 @@ ghost use Rattle.pm_store.specs.Store.{IsLater};
 ghost use Rattle.pm_command.specs.Outside.{Prints};
 ghost use Rattle.pm_command_compact.specs.Compact.{DidCompact, IsCompacted, KeepsHistories, snapshot_of, text_of};
 
-use pm_command::{Start, judge, own_names, own_user, print, print_snapshot};
+use pm_command::{Start, own_names, own_user, print, print_snapshot};
 use pm_compactor::{Compacted, compact_table};
 use pm_engines::declared_law;
 use pm_io::Sink;
@@ -31,12 +31,12 @@ pub fn run_compact<W: Sink, F: FileStore>(
     ensures out_later { SinkLater (W.seen out.old) (W.seen out.new) }
     ensures store_later { IsLater (F.seen store.old) (F.seen store.new) }
 {
-    let compacted = compact_built(alloc, full, store, start)?;
+    let compacted = compact_declared(alloc, full, store, start)?;
     print_compacted(out, compacted)
 }
 
-/// Compacts a table that is built.
-fn compact_built<F: FileStore>(
+/// Compacts the table, once its schema was read.
+fn compact_declared<F: FileStore>(
     alloc: Global,
     full: bool,
     store: &mut F,
@@ -47,7 +47,6 @@ fn compact_built<F: FileStore>(
     ensures later { IsLater (F.seen store.old) (F.seen store.new) }
 {
     let schema = read_table_schema(alloc, store)?;
-    judge(alloc, &schema)?;
     declared_law();
     let user = own_user(alloc, start)?;
     let names = own_names(start);

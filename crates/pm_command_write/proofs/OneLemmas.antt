@@ -19,9 +19,8 @@ use Rattle.pm_store.specs.declared.call.Call.{Call}
 use Rattle.pm_machine.specs.Step.{path_of}
 use Rattle.pm_machine.specs.Trace.{Event, faulted}
 use Rattle.pm_model_history.specs.Merge.{HistoryRow}
+use Rattle.pm_schema.specs.Again.{IsDeclared}
 use Rattle.pm_schema.specs.declared.schema.TableSchema.{TableSchema}
-use Rattle.pm_draft.specs.Built.{IsBuilt, unbuilt}
-use Rattle.pm_draft.proofs.BuiltLemmas.{built-none}
 use Rattle.pm_read_schema.proofs.LeadLemmas.{Fails, Leads, failed_not, one_end, one_failed, one_lead}
 use Rattle.pm_read_schema.proofs.OneLemmas as schema
 use Rattle.pm_model_following.specs.Groups.{rows_in}
@@ -129,24 +128,23 @@ written_by (Ok (appends.Committed id)) = Ok (written.Committed id)
 written_by (Err e) = Err e
 
 -- what is answered where the schema was read, if no commit follows
-abbrev answer_of : Option Refusal → Result (List HistoryRow) Refusal → Option (Result Written Refusal)
-answer_of (Some e) taken = Some (Err e)
-answer_of None (Ok []) = Some (Ok written.Nothing)
-answer_of None (Ok (row ∷ rows)) = None
-answer_of None (Err e) = Some (Err e)
+abbrev answer_of : Result (List HistoryRow) Refusal → Option (Result Written Refusal)
+answer_of (Ok []) = Some (Ok written.Nothing)
+answer_of (Ok (row ∷ rows)) = None
+answer_of (Err e) = Some (Err e)
 
 module _ (start : Start) (w : Writer) (lines : Lines) where
   abbrev answer_at : schema.Place → Option (Result Written Refusal)
   answer_at (schema.over e) = Some (Err e)
-  answer_at (schema.ready s) = answer_of (unbuilt s) (all_taken s lines)
+  answer_at (schema.ready s) = answer_of (all_taken s lines)
   answer_at m = None
 
-  -- the rows are committed to a table that is built
+  -- the rows are committed
   record Commits (result : Result Appended Refusal) (own : List Event) : Type 0 where
     table : TableSchema
     rows : List HistoryRow
     batch : Groups
-    built : IsBuilt table
+    declared : IsDeclared table
     taken : all_taken table lines ≡ Ok rows
     some : rows ≢ []
     is_batch : IsBatchOf table rows batch
@@ -164,23 +162,20 @@ module _ (start : Start) (w : Writer) (lines : Lines) where
   by_schema e own (schema.of_place lead) = of_schema (schema.over e) lead tt refl
 
   by_commit : (result : Result Appended Refusal) (own : List Event) → AppendsLines start w lines result own → IsShown (written_by result) own
-  by_commit result own (s, rows, batch, built, taken, some, is, did) =
-      of_commit result refl (record { table = s; rows = rows; batch = batch; built = built; taken = taken; some = some; is_batch = is; did = did })
+  by_commit result own (s, rows, batch, declared, taken, some, is, did) =
+      of_commit result refl (record { table = s; rows = rows; batch = batch; declared = declared; taken = taken; some = some; is_batch = is; did = did })
 
-  built_answer : (s : TableSchema) (taken : Result (List HistoryRow) Refusal) → IsBuilt s → all_taken s lines ≡ taken → answer_at (schema.ready s) ≡ answer_of None taken
-  built_answer s taken built is = ap (λ (o : Option Refusal). answer_of o (all_taken s lines)) (built-none s built) ∙ ap (answer_of None) is
+  ready_answer : (s : TableSchema) (taken : Result (List HistoryRow) Refusal) → all_taken s lines ≡ taken → answer_at (schema.ready s) ≡ answer_of taken
+  ready_answer s taken is = ap answer_of is
 
   is_shown : (made : Result Written Refusal) (own : List Event) → DidWrite start w lines made own → IsShown made own
-  is_shown (Ok written.Nothing) own (s, taken, has) = of_schema (schema.ready s) (schema.ready_lead s own has.has) tt (built_answer s (Ok []) has.built taken)
+  is_shown (Ok written.Nothing) own (s, taken, has) = of_schema (schema.ready s) (schema.ready_lead s own has.has) tt (ready_answer s (Ok []) taken)
   is_shown (Ok written.Already) own appended = by_commit (Ok appends.Already) own appended
   is_shown (Ok (written.Committed id)) own appended = by_commit (Ok (appends.Committed id)) own appended
   is_shown (Err e) own (inl shows) = by_schema e own (schema.is_shown e own shows)
-  is_shown (Err e) own (inr (inl (s, inl memory, ready))) = of_memory (ap Err memory)
-  is_shown (Err e) own (inr (inl (s, inr why, ready))) =
-      of_schema (schema.ready s) (schema.ready_lead s own ready) tt (ap (λ (o : Option Refusal). answer_of o (all_taken s lines)) why)
-  is_shown (Err e) own (inr (inr (inl (s, inl memory, has)))) = of_memory (ap Err memory)
-  is_shown (Err e) own (inr (inr (inl (s, inr why, has)))) = of_schema (schema.ready s) (schema.ready_lead s own has.has) tt (built_answer s (Err e) has.built why)
-  is_shown (Err e) own (inr (inr (inr appended))) = by_commit (Err e) own appended
+  is_shown (Err e) own (inr (inl (s, inl memory, has))) = of_memory (ap Err memory)
+  is_shown (Err e) own (inr (inl (s, inr why, has))) = of_schema (schema.ready s) (schema.ready_lead s own has.has) tt (ready_answer s (Err e) why)
+  is_shown (Err e) own (inr (inr appended)) = by_commit (Err e) own appended
 
   -- ---- one answer
 
@@ -188,7 +183,7 @@ module _ (start : Start) (w : Writer) (lines : Lines) where
   AreOneAnswer one other = (one ≡ other) ⊎ ((one ≡ Err refusals.Memory) ⊎ (other ≡ Err refusals.Memory))
 
   -- no commit follows where something is answered of the schema
-  none_left : (rows : List HistoryRow) (made : Result Written Refusal) → rows ≢ [] → answer_of None (Ok rows) ≡ Some made → ⊥
+  none_left : (rows : List HistoryRow) (made : Result Written Refusal) → rows ≢ [] → answer_of (Ok rows) ≡ Some made → ⊥
   none_left [] made some is = some refl
   none_left (row ∷ rows) made some is = cc
 
@@ -198,7 +193,7 @@ module _ (start : Start) (w : Writer) (lines : Lines) where
       let (earlier, later, has, is, ended) = c.did in
       let end = one_end schema.Goes schema.IsEnd schema.are_one schema.ends_stay own earlier [] later schema.listing m (schema.ready c.table) (append-nil own ∙ is) lead
       ends (schema.ready_lead c.table earlier has) tt in
-      none_left c.rows made c.some (sym (built_answer c.table (Ok c.rows) c.built c.taken) ∙ subst (λ (m : schema.Place). answer_at m ≡ Some made) end.1 answer)
+      none_left c.rows made c.some (sym (ready_answer c.table (Ok c.rows) c.taken) ∙ subst (λ (m : schema.Place). answer_at m ≡ Some made) end.1 answer)
 
   same_table : (own : List Event) (one other : Result Appended Refusal) (c : Commits one own) (d : Commits other own) → c.table ≡ d.table
   same_table own one other c d =

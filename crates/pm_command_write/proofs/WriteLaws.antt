@@ -1,5 +1,5 @@
 -- Laws of `write`: what is so of its input, of its calls, and of a history.
-use Rattle.std.proofs.Common.{◌≡◌, ◌≢◌, ◌⊎◌, inl, inr, ℕ, ◌+◌, ◌-◌, ◌≤◌, ◌==◌, ◌++◌, Bool, true, false, if◌then◌else◌, List, [], ◌∷◌, length, Option, None, Some, IfSome, IsSome, IsSomeAnd, Result, Ok, Err, refl, sym, ap, ◌∙◌, subst, arith}
+use Rattle.std.proofs.Common.{if◌then◌else◌, ◌≡◌, ◌≢◌, ◌⊎◌, inl, inr, ℕ, ◌+◌, ◌-◌, ◌≤◌, ◌==◌, ◌++◌, Bool, true, false, List, [], ◌∷◌, length, Option, None, Some, IfSome, IsSome, IsSomeAnd, Result, Ok, Err, refl, sym, ap, ◌∙◌, subst, arith}
 use Rattle.std.specs.FinMap as map
 use Rattle.std.specs.List.{AllByRecursion}
 use Rattle.std.specs.Result.{result_err}
@@ -26,6 +26,7 @@ use Rattle.pm_rows.specs.Reading.{Fault, row_of}
 use Rattle.pm_input.specs.Limits.{limits}
 use Rattle.pm_input.specs.Lines.{row_lines}
 use Rattle.pm_input.specs.Rows.{faulty_column, judged, refusal_in, row_at}
+use Rattle.pm_schema.specs.Again.{IsDeclared}
 use Rattle.pm_schema.specs.declared.schema.TableSchema.{TableSchema}
 use Rattle.pm_snapshot.specs.Names.{MayName, greatest}
 use Rattle.pm_snapshot.specs.declared.snapshot.Snapshot.{Snapshot}
@@ -39,7 +40,6 @@ use Rattle.pm_model_folder.specs.Ledger.{count_of}
 use Rattle.pm_model_folder.specs.Paths.{snapshot_path}
 use Rattle.pm_create.specs.Making.{LeavesFiles}
 use Rattle.pm_read_schema.specs.AllCalls.{DidRead, HasFiles, Stay, ReadsTables}
-use Rattle.pm_draft.specs.Built.{IsBuilt, unbuilt}
 use Rattle.pm_write.specs.Batch.{Groups, IsBatchOf, ReadsBatch}
 use Rattle.pm_group_rows.specs.Limit.{exceeds_partition}
 use Rattle.pm_write.specs.Taken.{all_taken, long_partition, no_room, taken_at, taken_by, taken_in, taken_of}
@@ -58,7 +58,7 @@ use Rattle.pm_command_write.specs.Write.{ActsWrite, AnswersLines, AnswersWrite, 
 use Rattle.pm_command_write.specs.declared.writer.Writer.{Writer}
 use Rattle.pm_command_write.specs.declared.write.Written.{Written}
 use Rattle.pm_command_write.specs.declared.write.Written.TheVariants as written
-use Rattle.pm_command.proofs.TableLemmas.{consumers_stay, trace_weaker, files_of, files_same, leaves_of, leaves_weaker, none_next, rests_of, images_of, caused, judged_caused}
+use Rattle.pm_command.proofs.TableLemmas.{consumers_stay, trace_weaker, files_of, files_same, leaves_of, leaves_weaker, none_next, rests_of, images_of, caused}
 use Rattle.pm_command.proofs.Uncalled.{at_known, uncalled}
 
 -- ---- the rows that are taken
@@ -121,26 +121,21 @@ pub read_refused : (start : Start) (w : Writer) (lines : Lines) (e : Refusal) (b
     → HasTrace (DidWrite start w lines (Err e)) before after
 read_refused start w lines e before after = trace_weaker (DidRead (Err e)) (DidWrite start w lines (Err e)) (λ own shows. inl shows) before after
 
--- the schema isn't built, or memory ran out for saying so
-pub judge_refused : (start : Start) (w : Writer) (lines : Lines) (s : TableSchema) (e : Refusal) (before after : StoreView)
-    → (e ≡ refusals.Memory) ⊎ (unbuilt s ≡ Some e) → HasTrace (DidRead (Ok s)) before after → HasTrace (DidWrite start w lines (Err e)) before after
-judge_refused start w lines s e before after why = trace_weaker (DidRead (Ok s)) (DidWrite start w lines (Err e)) (λ own has. inr (inl (s, why, has))) before after
-
 -- a line is refused, or memory ran out
 pub why_refused : (e : Refusal) (taken : Result (List HistoryRow) Refusal) → Fails (refusal_in e) taken → (e ≡ refusals.Memory) ⊎ (taken ≡ Err e)
 why_refused refusals.Memory taken fails = inl refl
 why_refused refusals.SourceFault taken fails = inr fails
 why_refused e taken fails = inr fails
 
-pub lines_refused : (start : Start) (w : Writer) (lines : Lines) (s : TableSchema) (e : Refusal) (before after : StoreView) → IsBuilt s
+pub lines_refused : (start : Start) (w : Writer) (lines : Lines) (s : TableSchema) (e : Refusal) (before after : StoreView) → IsDeclared s
     → (e ≡ refusals.Memory) ⊎ (all_taken s lines ≡ Err e) → HasTrace (DidRead (Ok s)) before after → HasTrace (DidWrite start w lines (Err e)) before after
-lines_refused start w lines s e before after built why =
-    trace_weaker (DidRead (Ok s)) (DidWrite start w lines (Err e)) (λ own has. inr (inr (inl (s, why, record { built = built; has = has })))) before after
+lines_refused start w lines s e before after declared why =
+    trace_weaker (DidRead (Ok s)) (DidWrite start w lines (Err e)) (λ own has. inr (inl (s, why, record { declared = declared; has = has }))) before after
 
-pub nothing_trace : (start : Start) (w : Writer) (lines : Lines) (s : TableSchema) (before after : StoreView) → IsBuilt s → all_taken s lines ≡ Ok []
+pub nothing_trace : (start : Start) (w : Writer) (lines : Lines) (s : TableSchema) (before after : StoreView) → IsDeclared s → all_taken s lines ≡ Ok []
     → HasTrace (DidRead (Ok s)) before after → HasTrace (DidWrite start w lines (Ok written.Nothing)) before after
-nothing_trace start w lines s before after built none =
-    trace_weaker (DidRead (Ok s)) (DidWrite start w lines (Ok written.Nothing)) (λ own has. (s, none, record { built = built; has = has })) before after
+nothing_trace start w lines s before after declared none =
+    trace_weaker (DidRead (Ok s)) (DidWrite start w lines (Ok written.Nothing)) (λ own has. (s, none, record { declared = declared; has = has })) before after
 
 -- what became of the rows, by the answer of their commit
 abbrev pub written_of : Result Appended Refusal → Result Written Refusal
@@ -151,16 +146,16 @@ written_of (Err e) = Err e
 -- what is known of the batch that is committed
 pub record IsTakenOf (start : Start) (w : Writer) (lines : Lines) (s : TableSchema) (batch : Groups) : Type 0 where
   pub rows : List HistoryRow
-  pub built : IsBuilt s
+  pub declared : IsDeclared s
   pub taken : all_taken s lines ≡ Ok rows
   pub some : rows ≢ []
   pub batch_of : IsBatchOf s rows batch
 
 appended_did : (start : Start) (w : Writer) (lines : Lines) (s : TableSchema) (batch : Groups) (made : Result Appended Refusal) (own : List Event)
     → IsTakenOf start w lines s batch → DidAppend s (commit_of start w batch) made own → DidWrite start w lines (written_of made) own
-appended_did start w lines s batch (Ok appends.Already) own t did = (s, t.rows, batch, t.built, t.taken, t.some, t.batch_of, did)
-appended_did start w lines s batch (Ok (appends.Committed id)) own t did = (s, t.rows, batch, t.built, t.taken, t.some, t.batch_of, did)
-appended_did start w lines s batch (Err e) own t did = inr (inr (inr (s, t.rows, batch, t.built, t.taken, t.some, t.batch_of, did)))
+appended_did start w lines s batch (Ok appends.Already) own t did = (s, t.rows, batch, t.declared, t.taken, t.some, t.batch_of, did)
+appended_did start w lines s batch (Ok (appends.Committed id)) own t did = (s, t.rows, batch, t.declared, t.taken, t.some, t.batch_of, did)
+appended_did start w lines s batch (Err e) own t did = inr (inr (s, t.rows, batch, t.declared, t.taken, t.some, t.batch_of, did))
 
 pub appended_trace : (start : Start) (w : Writer) (lines : Lines) (s : TableSchema) (batch : Groups) (made : Result Appended Refusal) (before after : StoreView)
     → IsTakenOf start w lines s batch → HasTrace (DidAppend s (commit_of start w batch) made) before after
@@ -204,7 +199,6 @@ listing_spoils : (start : Start) (w : Writer) (lines : Lines) (h : History) (fir
 listing_spoils start w lines h first after (refusals.StoreFault path) may rests = (may, fault_left start w lines h path after rests.folder)
 listing_spoils start w lines h first after refusals.NoTable may rests = (may, rests)
 listing_spoils start w lines h first after refusals.Memory may rests = rests.folder
-listing_spoils start w lines h first after (refusals.Unsupported what text) may rests = (may, rests)
 listing_spoils start w lines h first after other may rests = absurd may
 
 pub read_keeps : (start : Start) (w : Writer) (lines : Lines) (e : Refusal) (before after : StoreView) → ReadsTables before after (Err e)
@@ -215,15 +209,6 @@ read_keeps start w lines e before after reads = λ alone h begins.
     let read = reads alone files.0 h files.1 files.2.0 in
     stay_keeps start w lines h files.0 first after (Err e) files.1 files.2.0 read.files
     (λ left. listing_spoils start w lines h first after e (caused h first after e read.cause) left)
-
-pub judge_keeps : (start : Start) (w : Writer) (lines : Lines) (s : TableSchema) (e : Refusal) (before after : StoreView)
-    → (e ≡ refusals.Memory) ⊎ (unbuilt s ≡ Some e) → ReadsTables before after (Ok s) → KeepsHistories start w lines before after (Err e)
-judge_keeps start w lines s e before after why reads = λ alone h begins.
-    let first = at_first_own before after in
-    let files = files_of (MayStart (actor start) h) first begins in
-    let read = reads alone files.0 h files.1 files.2.0 in
-    stay_keeps start w lines h files.0 first after (Err e) files.1 files.2.0 read.files
-    (λ left. listing_spoils start w lines h first after e (judged_caused h first after s e read.schema why) left)
 
 -- ---- a line is refused, or there are no rows
 
@@ -274,25 +259,25 @@ of-lines s room (l ∷ lines) e is = elim (of-both (taken_at s room l) (taken_in
 ]
 
 line_spoils : (start : Start) (w : Writer) (lines : Lines) (h : History) (s : TableSchema) (first after : StoreView) (e : Refusal) → IsTableOf s h
-    → IsBuilt s → all_taken s lines ≡ Err e → IsOfLines e → Rests h first after → Spoils start w lines h first after e
-line_spoils start w lines h s first after (refusals.BadLine number why column) is built refused of left = ((s, is, built, refused), left)
-line_spoils start w lines h s first after (refusals.Retraction number column) is built refused of left = ((s, is, built, refused), left)
-line_spoils start w lines h s first after (refusals.Limit which number) is built refused of left = (inl (s, is, built, refused), left)
-line_spoils start w lines h s first after other is built refused of left = absurd of
+    → IsDeclared s → all_taken s lines ≡ Err e → IsOfLines e → Rests h first after → Spoils start w lines h first after e
+line_spoils start w lines h s first after (refusals.BadLine number why column) is declared refused of left = ((s, is, declared, refused), left)
+line_spoils start w lines h s first after (refusals.Retraction number column) is declared refused of left = ((s, is, declared, refused), left)
+line_spoils start w lines h s first after (refusals.Limit which number) is declared refused of left = (inl (s, is, declared, refused), left)
+line_spoils start w lines h s first after other is declared refused of left = absurd of
 
 why_spoils : (start : Start) (w : Writer) (lines : Lines) (h : History) (s : TableSchema) (first after : StoreView) (e : Refusal) → IsTableOf s h
-    → IsBuilt s → (e ≡ refusals.Memory) ⊎ (all_taken s lines ≡ Err e) → Rests h first after → Spoils start w lines h first after e
-why_spoils start w lines h s first after e is built (inl memory) left = subst (Spoils start w lines h first after) (sym memory) left.folder
-why_spoils start w lines h s first after e is built (inr refused) left =
-    line_spoils start w lines h s first after e is built refused (of-lines s limits.rows lines e refused) left
+    → IsDeclared s → (e ≡ refusals.Memory) ⊎ (all_taken s lines ≡ Err e) → Rests h first after → Spoils start w lines h first after e
+why_spoils start w lines h s first after e is declared (inl memory) left = subst (Spoils start w lines h first after) (sym memory) left.folder
+why_spoils start w lines h s first after e is declared (inr refused) left =
+    line_spoils start w lines h s first after e is declared refused (of-lines s limits.rows lines e refused) left
 
-pub lines_keeps : (start : Start) (w : Writer) (lines : Lines) (s : TableSchema) (e : Refusal) (before after : StoreView) → IsBuilt s
+pub lines_keeps : (start : Start) (w : Writer) (lines : Lines) (s : TableSchema) (e : Refusal) (before after : StoreView) → IsDeclared s
     → (e ≡ refusals.Memory) ⊎ (all_taken s lines ≡ Err e) → ReadsTables before after (Ok s) → KeepsHistories start w lines before after (Err e)
-lines_keeps start w lines s e before after built why reads = λ alone h begins.
+lines_keeps start w lines s e before after declared why reads = λ alone h begins.
     let first = at_first_own before after in
     let files = files_of (MayStart (actor start) h) first begins in
     let read = reads alone files.0 h files.1 files.2.0 in
-    stay_keeps start w lines h files.0 first after (Err e) files.1 files.2.0 read.files (λ left. why_spoils start w lines h s first after e read.schema built why left)
+    stay_keeps start w lines h files.0 first after (Err e) files.1 files.2.0 read.files (λ left. why_spoils start w lines h s first after e read.schema declared why left)
 
 pub nothing_keeps : (start : Start) (w : Writer) (lines : Lines) (s : TableSchema) (before after : StoreView) → all_taken s lines ≡ Ok []
     → ReadsTables before after (Ok s) → KeepsHistories start w lines before after (Ok written.Nothing)
@@ -562,11 +547,11 @@ pub none_taken : EmptyLaw → (s : TableSchema) (lines : Lines) (batch : Groups)
     → all_taken s lines ≡ Ok []
 none_taken law s lines batch (rows, taken, is) none = taken ∙ ap Ok ((law s rows batch is).0 none)
 
-pub some_taken : EmptyLaw → (start : Start) (w : Writer) (lines : Lines) (s : TableSchema) (batch : Groups) → IsBuilt s
+pub some_taken : EmptyLaw → (start : Start) (w : Writer) (lines : Lines) (s : TableSchema) (batch : Groups) → IsDeclared s
     → ReadsBatch s (Ok batch) (all_taken s lines) → batch ≢ [] → IsTakenOf start w lines s batch
-some_taken law start w lines s batch built (rows, taken, is) some = record {
+some_taken law start w lines s batch declared (rows, taken, is) some = record {
   rows = rows;
-  built = built;
+  declared = declared;
   taken = taken;
   some = λ none. some ((law s rows batch is).1 none);
   batch_of = is;

@@ -18,6 +18,7 @@ use Rattle.pm_model_history.specs.History.{Entry, History, IsTableOf, append, no
 use Rattle.pm_model_history.specs.Merge.{HistoryRow}
 use Rattle.pm_input.specs.Limits.{limits, IsWithin}
 use Rattle.pm_input.specs.Lines.{row_lines}
+use Rattle.pm_schema.specs.Again.{IsDeclared}
 use Rattle.pm_schema.specs.declared.schema.TableSchema.{TableSchema}
 use Rattle.pm_snapshot.specs.Names.{greatest}
 use Rattle.pm_model_folder.specs.Changes.{Actor}
@@ -25,7 +26,6 @@ use Rattle.pm_model_folder.specs.Folder.{Folder}
 use Rattle.pm_model_folder.specs.Ledger.{count_of}
 use Rattle.pm_create.specs.Making.{LeavesFiles}
 use Rattle.pm_read_schema.specs.Trace as reader
-use Rattle.pm_draft.specs.Built.{IsBuilt, unbuilt}
 use Rattle.pm_write.specs.Batch.{Groups, IsBatchOf}
 use Rattle.pm_write.specs.Taken.{all_taken}
 use Rattle.pm_made.specs.declared.newest.Author.{Author}
@@ -37,7 +37,6 @@ use Rattle.pm_commit.specs.declared.all_calls.Appended.TheVariants as appends
 use Rattle.pm_command_write.specs.Input.{MayRefuseInput, RefusesInput}
 use Rattle.pm_command.specs.Outside.{ConsumersRest, Outside, actor, IsUntouched, Prints, Rests, next_path, own_user}
 use Rattle.pm_command.specs.declared.start.Start.{Start}
-use Rattle.pm_command.specs.Table.{EndsAtSchema}
 use Rattle.pm_command_write.specs.declared.write.Written.{Written}
 use Rattle.pm_command_write.specs.declared.write.Written.TheVariants as written
 use Rattle.pm_command_write.specs.declared.writer.Writer.{Writer}
@@ -79,30 +78,30 @@ entry_by start w rows = append (author_of start w).user (author_of start w).iden
 abbrev pub Lines : Type 0
 Lines = List (ℕ × List ℕ)
 
--- the schema was read, of a table that is built
-pub record HasBuilt (s : TableSchema) (own : List Event) : Type 0 where
-  pub built : IsBuilt s
+-- the schema was read, which is declared
+pub record HasDeclared (s : TableSchema) (own : List Event) : Type 0 where
+  pub declared : IsDeclared s
   pub has : Has s own
 
 -- they end with the schema, and a line is the first that is refused; or memory ran out
 abbrev pub EndsAtLines : Lines → Refusal → List Event → Type 0
 EndsAtLines lines e own =
-    (s : TableSchema) × ((e ≡ refusals.Memory) ⊎ (all_taken s lines ≡ Err e)) × HasBuilt s own
+    (s : TableSchema) × ((e ≡ refusals.Memory) ⊎ (all_taken s lines ≡ Err e)) × HasDeclared s own
 
 -- some rows are taken of the lines, and they go on as the calls of a commit of these rows
 abbrev pub AppendsLines : Start → Writer → Lines → Result Appended Refusal → List Event → Type 0
 AppendsLines start w lines made own =
-    (s : TableSchema) × (rows : List HistoryRow) × (batch : Groups) × IsBuilt s × (all_taken s lines ≡ Ok rows)
+    (s : TableSchema) × (rows : List HistoryRow) × (batch : Groups) × IsDeclared s × (all_taken s lines ≡ Ok rows)
     × (rows ≢ []) × IsBatchOf s rows batch × DidAppend s (commit_of start w batch) made own
 
 -- Its calls of the store, by what became of the lines: of no row none follows the schema, and the others are those of a
--- commit; or they show why no schema was read, or end with the schema, or are those of a commit that was refused.
+-- commit; or they show why no schema was read, or end where a line is refused, or are those of a commit that was refused.
 abbrev pub DidWrite : Start → Writer → Lines → Result Written Refusal → List Event → Type 0
-DidWrite start w lines (Ok written.Nothing) own = (s : TableSchema) × (all_taken s lines ≡ Ok []) × HasBuilt s own
+DidWrite start w lines (Ok written.Nothing) own = (s : TableSchema) × (all_taken s lines ≡ Ok []) × HasDeclared s own
 DidWrite start w lines (Ok written.Already) own = AppendsLines start w lines (Ok appends.Already) own
 DidWrite start w lines (Ok (written.Committed id)) own = AppendsLines start w lines (Ok (appends.Committed id)) own
 DidWrite start w lines (Err e) own =
-    reader.Shows e own ⊎ EndsAtSchema e own ⊎ EndsAtLines lines e own ⊎ AppendsLines start w lines (Err e) own
+    reader.Shows e own ⊎ EndsAtLines lines e own ⊎ AppendsLines start w lines (Err e) own
 
 -- ---- what it prints
 
@@ -205,9 +204,9 @@ Becomes start w lines h first after (written.Committed id) =
     × LeavesFiles (λ f. LeavesFiles (BeginsWith start w lines h (IsCommittedTo f)) first) after
     × LeavesFiles (HasRows start w lines h) after
 
--- the history's table is built, and a line of the input is the first that it refuses
+-- the history's table is declared, and a line of the input is the first that it refuses
 abbrev pub RefusesLines : History → Lines → Refusal → Type 0
-RefusesLines h lines e = (s : TableSchema) × IsTableOf s h × IsBuilt s × (all_taken s lines ≡ Err e)
+RefusesLines h lines e = (s : TableSchema) × IsTableOf s h × IsDeclared s × (all_taken s lines ≡ Err e)
 
 -- the newest snapshot that was there at first gives this reason against the commit of the lines
 abbrev pub GivesAgainst : Start → Writer → Lines → History → Refusal → StoreView → Type 0
@@ -220,15 +219,13 @@ StandsAfterFault start w lines h path f = Folder f h ⊎ ((path ≡ next_path h)
 
 -- What a refusal of the work needs, and what stands after it: after a fault of the store, which was counted, the
 -- history, or where it was the publish's the history with the rows; else the history, and but where memory ran out or a
--- file of the actor's name was met nothing changed. There is no table, or none that is built; a line is refused; a file
--- of the actor's name was there at first; or the newest snapshot gives this reason against the commit. No other comes.
+-- file of the actor's name was met nothing changed. There is no table; a line is refused; a file of the actor's name was
+-- there at first; or the newest snapshot gives this reason against the commit. No other comes.
 abbrev pub Spoils : Start → Writer → Lines → History → StoreView → StoreView → Refusal → Type 0
 Spoils start w lines h first after refusals.Memory = Stays h after
 Spoils start w lines h first after (refusals.StoreFault path) =
     Rose first.faults after.faults × LeavesFiles (StandsAfterFault start w lines h path) after
 Spoils start w lines h first after refusals.NoTable = (h ≡ no_table) × Rests h first after
-Spoils start w lines h first after (refusals.Unsupported what text) =
-    ((s : TableSchema) × IsTableOf s h × (unbuilt s ≡ Some (refusals.Unsupported what text))) × Rests h first after
 Spoils start w lines h first after (refusals.BadLine number why column) =
     RefusesLines h lines (refusals.BadLine number why column) × Rests h first after
 Spoils start w lines h first after (refusals.Retraction number column) =

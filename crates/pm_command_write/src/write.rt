@@ -4,7 +4,6 @@ ghost use Rattle.std.specs.Prelude.{◌≡◌, ◌≢◌, ◌≤◌, ℕ, List, 
 ghost use Rattle.std.specs.Result.{result_err};
 ghost use Rattle.pm_commit.specs.Own.{group_limit};
 ghost use Rattle.pm_commit.specs.declared.phase.Phase.TheVariants as phases;
-ghost use Rattle.pm_draft.specs.Built.{IsBuilt};
 ghost use Rattle.pm_model_history.specs.Merge.{HistoryRow};
 ghost use Rattle.pm_io.specs.Sink.{SinkLater};
 ghost use Rattle.pm_machine.specs.Trace.{HasTrace};
@@ -22,7 +21,7 @@ ghost use Rattle.pm_command_write.specs.Write.{snapshot_of, text_of};
 use crate::input::read_input;
 use crate::writer::Writer;
 use pm_base::Txt;
-use pm_command::{Start, judge, own_names, own_user, print, print_snapshot};
+use pm_command::{Start, own_names, own_user, print, print_snapshot};
 use pm_commit::{Appended, Committer, append_rows, new_committer};
 use pm_engines::{TableEngine, declared_law};
 use pm_input::InputLines;
@@ -107,7 +106,6 @@ fn append_lines<F: FileStore>(
     batch_law();
     fit_law();
     let schema = read_table_schema(alloc, store)?;
-    judge(alloc, &schema)?;
     let batch = read_batch(alloc, &schema, lines)?;
     if batch.is_empty() {
         return Ok(Written::Nothing);
@@ -123,7 +121,6 @@ fn append_lines<F: FileStore>(
 /// The batch of the rows that a table takes of lines, or the first refusal.
 fn read_batch(alloc: Global, schema: &TableSchema, lines: InputLines) -> Result<Batch, Refusal>
     requires declared { IsDeclared schema.now }
-    requires built { IsBuilt schema.now }
     ensures { ReadsBatch schema.now result (all_taken schema.now lines) }
 {
     declared_law();
@@ -140,7 +137,6 @@ fn committer_of(
     start: &Start,
 ) -> Result<Committer, AllocError>
     requires declared { IsDeclared schema }
-    requires built { IsBuilt schema }
     requires read { (rows : List HistoryRow) × IsBatchOf schema rows batch }
     requires some { batch ≢ [] }
     requires few { length batch ≤ group_limit }

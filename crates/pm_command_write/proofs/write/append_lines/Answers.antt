@@ -6,7 +6,7 @@ use Rattle.pm_values.specs.declared.refusal.Refusal.TheVariants as refusals
 use Rattle.pm_machine.specs.Trace.{HasTrace}
 use Rattle.pm_commit.specs.AllCalls.{AppendsTables, DidAppend}
 use Rattle.pm_command_write.specs.Write.{commit_of}
-use Rattle.pm_command_write.proofs.WriteLaws.{IsTakenOf, appended_keeps, appended_trace, judge_keeps, judge_refused, lines_keeps, lines_refused, none_taken, nothing_keeps, nothing_trace, read_keeps, some_taken, why_refused}
+use Rattle.pm_command_write.proofs.WriteLaws.{IsTakenOf, appended_keeps, appended_trace, lines_keeps, lines_refused, none_taken, nothing_keeps, nothing_trace, read_keeps, some_taken, why_refused}
 use Rattle.pm_command_write.proofs.write.append_lines.Goals as goal
 
 pub returns-in_err-schema-clause-history : goal.returns-in_err-schema-clause-history
@@ -16,29 +16,13 @@ returns-in_err-schema-clause-history g c =
     (read_keeps c.args.start.now c.args.writer c.args.lines c.in_err-schema.field-0.0
     (g.F.FileStore.seen c.args.store.now) (g.F.FileStore.seen c.read_table_schema.new.store) c.in_err-schema.ensures.history)
 
-pub returns-in_err-judge-clause-trace : goal.returns-in_err-judge-clause-trace
-returns-in_err-judge-clause-trace g c =
-    let p = err_from_is_err_and c.from_residual-in_err-judge.result c.from_residual-in_err-judge.ensures.1 in
-    rw (p.1, p.2)
-    (judge_refused c.args.start.now c.args.writer c.args.lines c.in_ok-schema.schema
-    c.in_err-judge.field-0.0 (g.F.FileStore.seen c.args.store.now) (g.F.FileStore.seen c.read_table_schema.new.store) c.in_err-judge.ensures.unbuilt
-    c.in_ok-schema.ensures.trace)
-
-pub returns-in_err-judge-clause-history : goal.returns-in_err-judge-clause-history
-returns-in_err-judge-clause-history g c =
-    let p = err_from_is_err_and c.from_residual-in_err-judge.result c.from_residual-in_err-judge.ensures.1 in
-    rw (p.1, p.2)
-    (judge_keeps c.args.start.now c.args.writer c.args.lines c.in_ok-schema.schema
-    c.in_err-judge.field-0.0 (g.F.FileStore.seen c.args.store.now) (g.F.FileStore.seen c.read_table_schema.new.store) c.in_err-judge.ensures.unbuilt
-    c.in_ok-schema.ensures.history)
-
 pub returns-in_err-batch-clause-trace : goal.returns-in_err-batch-clause-trace
 returns-in_err-batch-clause-trace g c =
     let p = err_from_is_err_and c.from_residual-in_err-batch.result c.from_residual-in_err-batch.ensures.1 in
     let lines = c.args.lines in
     rw (p.1, p.2)
     (lines_refused c.args.start.now c.args.writer lines c.in_ok-schema.schema
-    c.in_err-batch.field-0.0 (g.F.FileStore.seen c.args.store.now) (g.F.FileStore.seen c.read_table_schema.new.store) c.in_ok-judge.ensures.built
+    c.in_err-batch.field-0.0 (g.F.FileStore.seen c.args.store.now) (g.F.FileStore.seen c.read_table_schema.new.store) c.in_ok-schema.ensures.declared
     (why_refused c.in_err-batch.field-0.0 (all_taken c.in_ok-schema.schema lines) c.in_err-batch.ensures) c.in_ok-schema.ensures.trace)
 
 pub returns-in_err-batch-clause-history : goal.returns-in_err-batch-clause-history
@@ -47,14 +31,14 @@ returns-in_err-batch-clause-history g c =
     let lines = c.args.lines in
     rw (p.1, p.2)
     (lines_keeps c.args.start.now c.args.writer lines c.in_ok-schema.schema
-    c.in_err-batch.field-0.0 (g.F.FileStore.seen c.args.store.now) (g.F.FileStore.seen c.read_table_schema.new.store) c.in_ok-judge.ensures.built
+    c.in_err-batch.field-0.0 (g.F.FileStore.seen c.args.store.now) (g.F.FileStore.seen c.read_table_schema.new.store) c.in_ok-schema.ensures.declared
     (why_refused c.in_err-batch.field-0.0 (all_taken c.in_ok-schema.schema lines) c.in_err-batch.ensures) c.in_ok-schema.ensures.history)
 
 pub returns-then-is_empty-clause-trace : goal.returns-then-is_empty-clause-trace
 returns-then-is_empty-clause-trace g c =
     let lines = c.args.lines in
     nothing_trace c.args.start.now c.args.writer lines c.in_ok-schema.schema
-    (g.F.FileStore.seen c.args.store.now) (g.F.FileStore.seen c.read_table_schema.new.store) c.in_ok-judge.ensures.built
+    (g.F.FileStore.seen c.args.store.now) (g.F.FileStore.seen c.read_table_schema.new.store) c.in_ok-schema.ensures.declared
     (none_taken c.batch_law.ensures.empty c.in_ok-schema.schema lines c.in_ok-batch.batch c.in_ok-batch.ensures (c.is_empty.ensures.0 c.if-is_empty.true))
     c.in_ok-schema.ensures.trace
 
@@ -71,7 +55,7 @@ returns-in_err-committer-clause-history g c =
     let p = err_from_is_err_and c.from_residual-in_err-committer.result c.from_residual-in_err-committer.ensures.1 in
     rw (p.1, p.2)
     (lines_keeps c.args.start.now c.args.writer c.args.lines c.in_ok-schema.schema
-    refusals.Memory (g.F.FileStore.seen c.args.store.now) (g.F.FileStore.seen c.read_table_schema.new.store) c.in_ok-judge.ensures.built (inl refl) c.in_ok-schema.ensures.history)
+    refusals.Memory (g.F.FileStore.seen c.args.store.now) (g.F.FileStore.seen c.read_table_schema.new.store) c.in_ok-schema.ensures.declared (inl refl) c.in_ok-schema.ensures.history)
 
 pub returns-in-Ok-Committed-clause-trace : goal.returns-in-Ok-Committed-clause-trace
 returns-in-Ok-Committed-clause-trace g c =
@@ -82,7 +66,7 @@ returns-in-Ok-Committed-clause-trace g c =
     let batch = c.in_ok-batch.batch in
     let first = g.F.FileStore.seen c.args.store.now in
     let after = g.F.FileStore.seen c.append_rows.new.store in
-    let t : IsTakenOf start w lines s batch = some_taken c.batch_law.ensures.empty start w lines s batch c.in_ok-judge.ensures.built c.in_ok-batch.ensures
+    let t : IsTakenOf start w lines s batch = some_taken c.batch_law.ensures.empty start w lines s batch c.in_ok-schema.ensures.declared c.in_ok-batch.ensures
     (λ none. true≢false (sym (c.is_empty.ensures.1 none) ∙ c.if-is_empty.false)) in
     let did : HasTrace (DidAppend s (commit_of start w batch) (Ok (appends.Committed c.in-Ok-Committed.id))) first after =
     rw c.in-Ok-Committed.field-0-is at (c.in-Ok-Committed.ensures.trace s (commit_of start w batch) first c.in_ok-committer.ensures.committer
@@ -98,7 +82,7 @@ returns-in-Ok-Committed-clause-history g c =
     let batch = c.in_ok-batch.batch in
     let first = g.F.FileStore.seen c.args.store.now in
     let after = g.F.FileStore.seen c.append_rows.new.store in
-    let t : IsTakenOf start w lines s batch = some_taken c.batch_law.ensures.empty start w lines s batch c.in_ok-judge.ensures.built c.in_ok-batch.ensures
+    let t : IsTakenOf start w lines s batch = some_taken c.batch_law.ensures.empty start w lines s batch c.in_ok-schema.ensures.declared c.in_ok-batch.ensures
     (λ none. true≢false (sym (c.is_empty.ensures.1 none) ∙ c.if-is_empty.false)) in
     let does : AppendsTables s (commit_of start w batch) first after (Ok (appends.Committed c.in-Ok-Committed.id)) =
     rw c.in-Ok-Committed.field-0-is at (c.in-Ok-Committed.ensures.history s (commit_of start w batch) first c.in_ok-committer.ensures.committer
@@ -115,7 +99,7 @@ returns-in-Ok-Already-clause-trace g c =
     let batch = c.in_ok-batch.batch in
     let first = g.F.FileStore.seen c.args.store.now in
     let after = g.F.FileStore.seen c.append_rows.new.store in
-    let t : IsTakenOf start w lines s batch = some_taken c.batch_law.ensures.empty start w lines s batch c.in_ok-judge.ensures.built c.in_ok-batch.ensures
+    let t : IsTakenOf start w lines s batch = some_taken c.batch_law.ensures.empty start w lines s batch c.in_ok-schema.ensures.declared c.in_ok-batch.ensures
     (λ none. true≢false (sym (c.is_empty.ensures.1 none) ∙ c.if-is_empty.false)) in
     let did : HasTrace (DidAppend s (commit_of start w batch) (Ok appends.Already)) first after =
     rw c.in-Ok-Already.field-0-is at (c.in-Ok-Already.ensures.trace s (commit_of start w batch) first c.in_ok-committer.ensures.committer
@@ -131,7 +115,7 @@ returns-in-Ok-Already-clause-history g c =
     let batch = c.in_ok-batch.batch in
     let first = g.F.FileStore.seen c.args.store.now in
     let after = g.F.FileStore.seen c.append_rows.new.store in
-    let t : IsTakenOf start w lines s batch = some_taken c.batch_law.ensures.empty start w lines s batch c.in_ok-judge.ensures.built c.in_ok-batch.ensures
+    let t : IsTakenOf start w lines s batch = some_taken c.batch_law.ensures.empty start w lines s batch c.in_ok-schema.ensures.declared c.in_ok-batch.ensures
     (λ none. true≢false (sym (c.is_empty.ensures.1 none) ∙ c.if-is_empty.false)) in
     let does : AppendsTables s (commit_of start w batch) first after (Ok appends.Already) =
     rw c.in-Ok-Already.field-0-is at (c.in-Ok-Already.ensures.history s (commit_of start w batch) first c.in_ok-committer.ensures.committer
@@ -148,7 +132,7 @@ returns-in-Err-clause-trace g c =
     let batch = c.in_ok-batch.batch in
     let first = g.F.FileStore.seen c.args.store.now in
     let after = g.F.FileStore.seen c.append_rows.new.store in
-    let t : IsTakenOf start w lines s batch = some_taken c.batch_law.ensures.empty start w lines s batch c.in_ok-judge.ensures.built c.in_ok-batch.ensures
+    let t : IsTakenOf start w lines s batch = some_taken c.batch_law.ensures.empty start w lines s batch c.in_ok-schema.ensures.declared c.in_ok-batch.ensures
     (λ none. true≢false (sym (c.is_empty.ensures.1 none) ∙ c.if-is_empty.false)) in
     let did : HasTrace (DidAppend s (commit_of start w batch) (Err c.in-Err.refusal)) first after =
     (c.in-Err.ensures.trace s (commit_of start w batch) first c.in_ok-committer.ensures.committer
@@ -164,7 +148,7 @@ returns-in-Err-clause-history g c =
     let batch = c.in_ok-batch.batch in
     let first = g.F.FileStore.seen c.args.store.now in
     let after = g.F.FileStore.seen c.append_rows.new.store in
-    let t : IsTakenOf start w lines s batch = some_taken c.batch_law.ensures.empty start w lines s batch c.in_ok-judge.ensures.built c.in_ok-batch.ensures
+    let t : IsTakenOf start w lines s batch = some_taken c.batch_law.ensures.empty start w lines s batch c.in_ok-schema.ensures.declared c.in_ok-batch.ensures
     (λ none. true≢false (sym (c.is_empty.ensures.1 none) ∙ c.if-is_empty.false)) in
     let does : AppendsTables s (commit_of start w batch) first after (Err c.in-Err.refusal) =
     (c.in-Err.ensures.history s (commit_of start w batch) first c.in_ok-committer.ensures.committer

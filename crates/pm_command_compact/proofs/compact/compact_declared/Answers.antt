@@ -1,12 +1,11 @@
-use Rattle.std.proofs.Common.{SFits, inl, refl, rules, subst, w64}
+use Rattle.std.proofs.Common.{SFits, rules, subst, w64}
 use Rattle.std.proofs.Math.Facts.{to_z-of_z}
 use Rattle.std.proofs.lemmas.Result.{err_from_is_err_and}
-use Rattle.pm_values.specs.declared.refusal.Refusal.TheVariants as refusals
 use Rattle.pm_machine.specs.Trace.{HasTrace}
 use Rattle.pm_plan.specs.declared.planned.Asking.{Asking}
 use Rattle.pm_compactor.specs.AllCalls.{CompactsTables, DidCompact}
-use Rattle.pm_command_compact.proofs.CompactLaws.{asked_is, compacted_keeps, compacted_trace, judge_keeps, judge_refused, own_may, read_keeps}
-use Rattle.pm_command_compact.proofs.compact.compact_built.Goals as goal
+use Rattle.pm_command_compact.proofs.CompactLaws.{asked_is, compacted_keeps, compacted_trace, memory_keeps, memory_refused, own_may, read_keeps}
+use Rattle.pm_command_compact.proofs.compact.compact_declared.Goals as goal
 
 pub returns-in_err-schema-clause-history : goal.returns-in_err-schema-clause-history
 returns-in_err-schema-clause-history g c =
@@ -15,33 +14,19 @@ returns-in_err-schema-clause-history g c =
     (read_keeps c.args.start.now c.args.full c.in_err-schema.field-0.0 (g.F.FileStore.seen c.args.store.now)
     (g.F.FileStore.seen c.read_table_schema.new.store) c.in_err-schema.ensures.history)
 
-pub returns-in_err-judge-clause-trace : goal.returns-in_err-judge-clause-trace
-returns-in_err-judge-clause-trace g c =
-    let p = err_from_is_err_and c.from_residual-in_err-judge.result c.from_residual-in_err-judge.ensures.1 in
-    rw (p.1, p.2)
-    (judge_refused c.args.start.now c.args.full c.in_ok-schema.schema c.in_err-judge.field-0.0 (g.F.FileStore.seen c.args.store.now)
-    (g.F.FileStore.seen c.read_table_schema.new.store) c.in_err-judge.ensures.unbuilt c.in_ok-schema.ensures.trace)
-
-pub returns-in_err-judge-clause-history : goal.returns-in_err-judge-clause-history
-returns-in_err-judge-clause-history g c =
-    let p = err_from_is_err_and c.from_residual-in_err-judge.result c.from_residual-in_err-judge.ensures.1 in
-    rw (p.1, p.2)
-    (judge_keeps c.args.start.now c.args.full c.in_ok-schema.schema c.in_err-judge.field-0.0 (g.F.FileStore.seen c.args.store.now)
-    (g.F.FileStore.seen c.read_table_schema.new.store) c.in_err-judge.ensures.unbuilt c.in_ok-schema.ensures.history)
-
 pub returns-in_err-user-clause-trace : goal.returns-in_err-user-clause-trace
 returns-in_err-user-clause-trace g c =
     let p = err_from_is_err_and c.from_residual-in_err-user.result c.from_residual-in_err-user.ensures.1 in
     rw (p.1, p.2)
-    (judge_refused c.args.start.now c.args.full c.in_ok-schema.schema refusals.Memory (g.F.FileStore.seen c.args.store.now)
-    (g.F.FileStore.seen c.read_table_schema.new.store) (inl refl) c.in_ok-schema.ensures.trace)
+    (memory_refused c.args.start.now c.args.full c.in_ok-schema.schema (g.F.FileStore.seen c.args.store.now)
+    (g.F.FileStore.seen c.read_table_schema.new.store) c.in_ok-schema.ensures.trace)
 
 pub returns-in_err-user-clause-history : goal.returns-in_err-user-clause-history
 returns-in_err-user-clause-history g c =
     let p = err_from_is_err_and c.from_residual-in_err-user.result c.from_residual-in_err-user.ensures.1 in
     rw (p.1, p.2)
-    (judge_keeps c.args.start.now c.args.full c.in_ok-schema.schema refusals.Memory (g.F.FileStore.seen c.args.store.now)
-    (g.F.FileStore.seen c.read_table_schema.new.store) (inl refl) c.in_ok-schema.ensures.history)
+    (memory_keeps c.args.start.now c.args.full c.in_ok-schema.schema (g.F.FileStore.seen c.args.store.now)
+    (g.F.FileStore.seen c.read_table_schema.new.store) c.in_ok-schema.ensures.history)
 
 pub returns-clause-trace : goal.returns-clause-trace
 returns-clause-trace g c =
@@ -49,7 +34,7 @@ returns-clause-trace g c =
     let first = g.F.FileStore.seen c.args.store.now in
     let after = g.F.FileStore.seen c.compact_table.new.store in
     let s = c.in_ok-schema.schema in
-    compacted_trace c.args.start.now c.args.full s c.compact_table.result first after c.in_ok-judge.ensures.built
+    compacted_trace c.args.start.now c.args.full s c.compact_table.result first after c.in_ok-schema.ensures.declared
     (subst (λ (a : Asking). HasTrace (DidCompact s a c.compact_table.result) first after)
     (asked_is c.args.start.now c.args.full c.in_ok-user.user c.own_names-names.result _ c.in_ok-user.ensures c.own_names-names.ensures.names
     (to_z-of_z fits))
