@@ -84,7 +84,6 @@ stays : (start : Start) (full : Bool) (h : History) (first after : StoreView) (e
 stays start full h first after refusals.Memory other spoils = spoils
 stays start full h first after (refusals.StoreFault path) other spoils = absurd other
 stays start full h first after refusals.NoTable other spoils = spoils.1.folder
-stays start full h first after (refusals.Unsupported what text) other spoils = spoils.1.folder
 stays start full h first after (refusals.SessionUsed path) other spoils = spoils.1
 stays start full h first after (refusals.Limit which number) other spoils = spoils.1.folder
 stays start full h first after e other spoils = absurd spoils

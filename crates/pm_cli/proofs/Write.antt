@@ -181,7 +181,6 @@ stays : (start : Start) (w : Writer) (all : Lines) (h : History) (first after : 
 stays start w all h first after refusals.Memory other spoils = spoils
 stays start w all h first after (refusals.StoreFault path) other spoils = absurd other
 stays start w all h first after refusals.NoTable other spoils = spoils.1.folder
-stays start w all h first after (refusals.Unsupported what text) other spoils = spoils.1.folder
 stays start w all h first after (refusals.BadLine number why column) other spoils = spoils.1.folder
 stays start w all h first after (refusals.Retraction number column) other spoils = spoils.1.folder
 stays start w all h first after (refusals.SessionUsed path) other spoils = spoils.1
