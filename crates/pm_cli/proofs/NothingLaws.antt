@@ -56,22 +56,22 @@ reads_none store = read_history (Err refusals.Memory) store store (read_none sto
 scanned_none : (at : Option ℕ) (out : SinkView) (store : StoreView) → scan.IsScanned at out out store store (Some refusals.Memory)
 scanned_none at out store =
     scans.refused_scanned at refusals.Memory out store store (scans.read_refused at refusals.Memory store store (read_none store))
-    (inr (learns-none AnyPast store)) (scans.read_keeps at refusals.Memory store store (reads_none store))
+    (scans.read_beside at refusals.Memory store store (read_none store) (learns-none AnyPast store)) (scans.read_keeps at refusals.Memory store store (reads_none store))
 
 listed_none : (out : SinkView) (store : StoreView) → snapshots.IsListed out out store store (Some refusals.Memory)
 listed_none out store =
     lists.refused_listed refusals.Memory out store store (lists.read_refused refusals.Memory store store (read_none store))
-    (lists.read_told refusals.Memory store store (learns-none AnyPast store)) (lists.read_keeps refusals.Memory store store (reads_none store))
+    (learns-none AnyPast store) (lists.read_keeps refusals.Memory store store (reads_none store))
 
 read_of_none : (out : SinkView) (store : StoreView) → consumers.IsListed out out store store (Some refusals.Memory)
 read_of_none out store =
-    reads.refused_listed refusals.Memory out store store (reads.read_refused refusals.Memory store store (read_none store)) tt
+    reads.refused_listed refusals.Memory out store store (reads.read_refused refusals.Memory store store (read_none store)) (learns-none AnyPast store)
     (reads.read_keeps refusals.Memory store store (reads_none store))
 
 removed_none : (name : List ℕ) (out : SinkView) (store : StoreView) → drops.IsRemoved name out out store store (Some refusals.Memory)
 removed_none name out store =
     removes.refused_removed name refusals.Memory out store store (removes.read_refused name refusals.Memory store store (read_none store))
-    (removes.read_beside name refusals.Memory store store (read_none store)) (removes.read_keeps name refusals.Memory store store (reads_none store))
+    (removes.read_beside name refusals.Memory store store (learns-none AnyPast store)) (removes.read_keeps name refusals.Memory store store (reads_none store))
 
 compacted_none : (start : Start) (full : Bool) (out : SinkView) (store : StoreView)
     → compact.IsCompacted start full out out store store (Some refusals.Memory)
