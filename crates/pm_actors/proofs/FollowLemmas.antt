@@ -10,7 +10,7 @@ use Rattle.pm_model_folder.specs.Consumers.{frame_in}
 use Rattle.pm_model_folder.specs.Ledger.{Past, Stands}
 use Rattle.pm_read_latest.specs.declared.phase.Phase.TheVariants as finders
 use Rattle.pm_read_frame.specs.Frames.{AreFramesFrom, IsFrameOf}
-use Rattle.pm_read_frame.specs.Meaning.{HasOneLog, IsFrame}
+use Rattle.pm_read_frame.specs.Meaning.{HasProducer, IsFrame}
 use Rattle.pm_read_frame.specs.declared.phase.Phase.TheVariants as followers
 use Rattle.pm_move_consumer.specs.Mover.{IsMoving, new_mover}
 use Rattle.pm_move_consumer.specs.MoverMeaning.{Move}
@@ -52,7 +52,7 @@ module _ (laws : FrameLaws) (me : Actor) (x : Followed) (text : Vec ℕ Global) 
 
 -- what was read is the frame, so a consumer that reads this snapshot next may be moved past it
 pub moves_knows : (m : Move) (x : Followed) (text : Vec ℕ Global) (f : Files) (p : Past) → Knows (follows m.me x (followers.Ready m.moving.next text)) f p
-    → HasOneLog x.schema → IsMoving m.moving → m.text ≡ text.items → Knows (moves m (new_mover m.moving)) f p
+    → HasProducer x.schema → IsMoving m.moving → m.text ≡ text.items → Knows (moves m (new_mover m.moving)) f p
 moves_knows m x text f p (known, is) log moving same =
     let schema = subst (IsTableOf x.schema) is.is_table known.table in (
       moving,
@@ -60,6 +60,6 @@ moves_knows m x text f p (known, is) log moving same =
       record {
         table = (x.schema, known.table, subst (AllByRecursion IsPlain) (sym log.partition) tt);
         within = is.known.to;
-        frame = same ∙ is.is_text (subst HasOneLog (sym schema) log) ∙ sym (ap (λ h. frame_in h m.moving.next) is.is_table);
+        frame = same ∙ is.is_text (subst HasProducer (sym schema) log) ∙ sym (ap (λ h. frame_in h m.moving.next) is.is_table);
       },
     )

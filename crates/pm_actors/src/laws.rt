@@ -18,7 +18,7 @@ ghost use Rattle.pm_model_folder.specs.Ledger.{Past, Stands};
 ghost use Rattle.pm_model_history.specs.History.{History};
 ghost use Rattle.pm_move_consumer.specs.Mover.{IsMoving, new_mover};
 ghost use Rattle.pm_move_consumer.specs.MoverMeaning.{Move};
-ghost use Rattle.pm_read_frame.specs.Meaning.{HasOneLog};
+ghost use Rattle.pm_read_frame.specs.Meaning.{HasProducer};
 ghost use Rattle.pm_read_frame.specs.declared.phase.Phase.TheVariants as followers;
 ghost use Rattle.pm_read_latest.specs.declared.phase.Phase.TheVariants as finders;
 ghost use Rattle.pm_register.specs.Registrar.{Registering};
@@ -114,7 +114,7 @@ pub fn follow_law()
         → Knows (follows me x (followers.Ready (x.start + length x.frames) text)) f p
         → Knows (follows me (with_frame x text.items) followers.Over) f p }
     ensures moves { (m : Move) (x : Followed) (text : Vec ℕ Global) (f : Files) (p : Past)
-        → Knows (follows m.me x (followers.Ready m.moving.next text)) f p → HasOneLog x.schema → IsMoving m.moving
+        → Knows (follows m.me x (followers.Ready m.moving.next text)) f p → HasProducer x.schema → IsMoving m.moving
         → m.text ≡ text.items → Knows (moves m (new_mover m.moving)) f p }
 {
     frames_law();

@@ -427,7 +427,7 @@ module _ (laws : Laws) (c : Consuming) (b : Beginning) (k : Known c b) (most : â
           stays I (ReadHere p count text frame_text) g first after (image_at c b most (passed count) g within so.stands)
           (record {
             handed = so;
-            frame_is = read.text (follow.one_log laws.readers g (history_of b) so.stands.folder s of);
+            frame_is = read.text (follow.has_producer laws.readers g (history_of b) so.stands.folder s of);
             there = there_first c b (passed count) g (p.next + count) so.stands there;
           }) read.files
 

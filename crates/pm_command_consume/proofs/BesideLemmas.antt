@@ -14,14 +14,12 @@ use Rattle.pm_model_history.specs.History.{Entry, History, IsTableOf, no_table, 
 use Rattle.pm_model_following.specs.Following.{frame}
 use Rattle.pm_model_folder.specs.Changes.{Actor}
 use Rattle.pm_model_folder.specs.Ledger.{Past, Stands, count_of}
-use Rattle.pm_draft.specs.Built.{IsBuilt}
 use Rattle.pm_beside.specs.Bringing.{BringsBeside}
 use Rattle.pm_move_consumer.specs.Mover.{IsMoving, Moving}
 use Rattle.pm_move_consumer.specs.MoverAllCalls.{DidMove, MovesOn}
 use Rattle.pm_move_consumer.specs.MoverMeaning.{IsPrinted, move_by}
 use Rattle.pm_read_frame.specs.Frames.{AreFramesFrom, IsFrameOf, joined}
-use Rattle.pm_read_frame.specs.Meaning.{HasOneLog, IsFrame}
-use Rattle.pm_command_follow.specs.Follow.{TellsChanges}
+use Rattle.pm_read_frame.specs.Meaning.{HasProducer, IsFrame}
 use Rattle.pm_command_follow.specs.Pieces.{IsCommittedOf, LearnsFrame, PieceBeside, PrintsFrame, RefusesFrame}
 use Rattle.pm_command_follow.proofs.KnownLemmas.{FrameKnown, FramesLater, FramesNext, joined_push, length_push}
 use Rattle.pm_command_follow.proofs.LearnLemmas.{IsKeptOn, count_on, table_on}
@@ -36,11 +34,8 @@ use Rattle.pm_command_consume.proofs.BringLemmas.{bring_known, bring_none, bring
 
 -- what the law of frames says of their text
 abbrev pub FramesText : Type 0
-FramesText = (s : TableSchema) (es : List Entry) (id : ℕ) (texts : List (List ℕ)) → HasOneLog s → AreFramesFrom (table s es) id texts
+FramesText = (s : TableSchema) (es : List Entry) (id : ℕ) (texts : List (List ℕ)) → HasProducer s → AreFramesFrom (table s es) id texts
     → joined texts ≡ flat_map (frame s es) (range_with_len id (length texts))
-
-pub one_log : (s : TableSchema) → TellsChanges s × IsBuilt s → HasOneLog s
-one_log s (tells, built) = record { producer = tells; bucket = built.bucket; partition = built.partition }
 
 -- ---- what goes on as the history does
 
@@ -59,13 +54,13 @@ frames_on law s start latest frames h later goes known = (listed_on s latest h l
 
 -- ---- one frame
 
-printed_frame : FramesText → (me : Actor) (s : TableSchema) (c : Consuming) (p : Place) (text : List ℕ) (h : History) → HasOneLog s → IsListed s p.next h
+printed_frame : FramesText → (me : Actor) (s : TableSchema) (c : Consuming) (p : Place) (text : List ℕ) (h : History) → HasProducer s → IsListed s p.next h
     → IsFrameOf h p.next text → IsPrinted (move_by me (moving_from c p) text) h
 printed_frame law me s c p text no_table log listed known = absurd listed.is
 printed_frame law me s c p text (table t es) log listed known = record {
   table = (s, listed.is, listed.plain);
   within = listed.within;
-  frame = sym (append-nil text) ∙ law t es p.next (text ∷ []) (subst HasOneLog (sym listed.is) log) (known, tt) ∙ append-nil (frame t es p.next);
+  frame = sym (append-nil text) ∙ law t es p.next (text ∷ []) (subst HasProducer (sym listed.is) log) (known, tt) ∙ append-nil (frame t es p.next);
 }
 
 module _ (me : Actor) (s : TableSchema) (c : Consuming) where
@@ -82,7 +77,7 @@ module _ (me : Actor) (s : TableSchema) (c : Consuming) where
       (learned me c Printed (λ f q. IsTableOf s q.history × (id ≤ greatest) × (id ≤ count_of q.history)) (λ f q. IsFrame q id text) before after learns))
 
   -- and the consumer was moved past it, or the move was refused
-  frame_brings : FrameKnown → FramesLater → FramesText → (p : Place) (text : List ℕ) (result : Result (List ℕ) Refusal) (before middle after : StoreView) → HasOneLog s
+  frame_brings : FrameKnown → FramesLater → FramesText → (p : Place) (text : List ℕ) (result : Result (List ℕ) Refusal) (before middle after : StoreView) → HasProducer s
       → p.next ≤ greatest → IsMoving (moving_from c p) → LearnsFrame s p.next text before middle → MovesOn (move_by me (moving_from c p) text) result middle after
       → BringsFrame me s c p.next text before after
   frame_brings known later law p text result before middle after log most is learns moves =
@@ -100,7 +95,7 @@ module _ (me : Actor) (s : TableSchema) (c : Consuming) where
   -- ---- a frame handed out
 
   pub frame_handed : FrameKnown → FramesLater → FramesText → (p later : Place) (result : Result (List ℕ) Refusal) (out out_after : SinkView) (before middle after : StoreView)
-      → HasOneLog s → p.next ≤ greatest → IsMoving (moving_from c p) → PieceBeside (LearnsFrame s p.next) (RefusesFrame s p.next) out out_after before middle None
+      → HasProducer s → p.next ≤ greatest → IsMoving (moving_from c p) → PieceBeside (LearnsFrame s p.next) (RefusesFrame s p.next) out out_after before middle None
       → ((text : List ℕ) → MovesOn (move_by me (moving_from c p) text) result middle after) → HandsBeside me s c p out out_after before after (Ok later)
   frame_handed known later_law law p later result out out_after before middle after log most is (text, learns, taken) moves =
       (text, taken, frame_brings known later_law law p text result before middle after log most is learns (moves text))
@@ -112,7 +107,7 @@ module _ (me : Actor) (s : TableSchema) (c : Consuming) where
   none_told m (refusals.ConsumerMoved found) own shows f q = tt
   none_told m e own shows f q = absurd shows
 
-  pub move_refused : FrameKnown → FramesLater → FramesText → (p : Place) (e : Refusal) (out out_after : SinkView) (before middle after : StoreView) → HasOneLog s
+  pub move_refused : FrameKnown → FramesLater → FramesText → (p : Place) (e : Refusal) (out out_after : SinkView) (before middle after : StoreView) → HasProducer s
       → p.next ≤ greatest → IsMoving (moving_from c p) → PieceBeside (LearnsFrame s p.next) (RefusesFrame s p.next) out out_after before middle None
       → ((text : List ℕ) → MovesOn (move_by me (moving_from c p) text) (Err e) middle after) → HasTrace (DidMove (moving_from c p) (Err e)) middle after
       → HandsBeside me s c p out out_after before after (Err e)

@@ -46,11 +46,10 @@ use Rattle.pm_scan.specs.declared.rows.Rows.TheVariants as shown
 use Rattle.pm_scan.proofs.OneLemmas.{one_view, same_asked}
 use Rattle.pm_read_log.specs.Log.{log_asked_of}
 use Rattle.pm_read_frame.specs.AllCalls.{DidFrame}
-use Rattle.pm_read_frame.proofs.OneLemmas as frame
 use Rattle.pm_command_follow.specs.Answer.{IsUnshown}
 use Rattle.pm_command_follow.specs.Follow.{DidTable, ReadsTable, Then}
 use Rattle.pm_command_follow.specs.Printed.{count_from, start_of}
-use Rattle.pm_command_follow.proofs.OneLemmas.{FilesRefused, FrameRefused, Framed, HasRead, IsElse, Listed, NoRefusal, OneLaws, SchemaRefused, Taken, ViewRefused, Viewed, above_not, asked, fails_behind, files_stage, frame_refused, frame_stage, has_read, listing_refused, listing_stage, same_id, schema_refused, schema_stage, view_stage}
+use Rattle.pm_command_follow.proofs.OneLemmas.{FilesRefused, FrameRefused, Framed, HasRead, IsElse, Listed, NoRefusal, OneLaws, SchemaRefused, Taken, ViewRefused, Viewed, above_not, asked, fails_behind, files_stage, frame_refused, frame_stage, framed, has_read, listing_refused, listing_stage, same_id, schema_refused, schema_stage, view_stage}
 use Rattle.pm_command_follow.proofs.StageLemmas.{Goes, IsOne, IsStage, one_behind}
 use Rattle.pm_command_consume.specs.Consume.{Ends, Finds, FindsUnsettled, GoesOn, HandsOut, HandsOutAll, Joins, Lists, Opens, ShowsFirst, Starts, all, fails_frame, fails_table, joined, moving_from, of_file, of_listing, of_registering, of_schema, of_start, of_table, place_at, refused_first, refused_frame, refused_listing, refused_move, settled}
 use Rattle.pm_command_consume.specs.declared.consuming.Consuming.{Consuming}
@@ -382,13 +381,12 @@ module _ (c : Consuming) where
       subst (λ (left : ℕ). Frames left 0 s p (own ++ more) x) same (subst (λ (own : List Event). Frames left 0 s p (own ++ more) x) (sym none) then)
   in_frames (suc count) left s p text own more x (before, last, (earlier, later, hands, (reads, moves, did, (new, does), at), is), parts) then =
       let size : count + suc left ≡ suc count + left = omega arith in
-      let framed = frame.part_lead (log_asked_of s (p.next + count)) did.0 last [] reads did.1 in
       let next : Frames (suc left) count s p (later ++ more) x =
       inl (
         last,
         reads,
         moves ++ more,
-        framed,
+        framed (log_asked_of s (p.next + count)) last reads did,
         ap (λ (own : List Event). own ++ more) at ∙ append_assoc reads moves more,
         inl (tt, moves, more, does, refl, then),
       ) in
@@ -576,13 +574,12 @@ module _ (c : Consuming) where
         let start : own ≡ earlier ++ (read ++ last) = is ∙ ap (λ (later : List Event). earlier ++ later) at in
         let whole : own ≡ ((earlier ++ read) ++ prints) ++ moves =
         start ∙ sym (append_assoc earlier read last) ∙ ap (λ (last : List Event). (earlier ++ read) ++ last) two ∙ sym (append_assoc (earlier ++ read) prints moves) in
-        let framed = frame.part_lead (log_asked_of s (p.next + count)) did.0 frame_text [] prints did.1 in
         at_last (MoveRefused (moving_from c (place_at p count)) e moves) e ((earlier ++ read) ++ prints) moves own whole
         (λ refused. subst (λ (own : List Event). All own (Some e)) (sym start)
         (in_lists laws s p full table latest earlier (read ++ last) (Some e) lists
         (subst (λ (count : ℕ). Frames count 0 s p (read ++ last) (Some e)) left
         (in_frames count (suc (count_from p.next latest - suc count)) s p frames read last (Some e) hands
-        (inl (frame_text, prints, moves, framed, two, inr (e, refl, refused)))))))
+        (inl (frame_text, prints, moves, framed (log_asked_of s (p.next + count)) frame_text prints did, two, inr (e, refl, refused)))))))
         (move_refused (moving_from c (place_at p count)) e moves does)
 
     by_all : (s : TableSchema) (p : Place) (full : Bool) (count : ℕ) (text : List ℕ) (own : List Event) → HandsOutAll s c p full count text own → IsShown None own

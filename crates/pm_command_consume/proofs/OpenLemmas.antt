@@ -239,7 +239,7 @@ module _ (me : Actor) (s : TableSchema) (c : Consuming) where
       bring_weaker me (StepsStill me c) (Steps me c start []) AnyPast AnyPast (λ f q. IsStarting s true start text q)
       (λ f q. (es : List Entry) × (q.history ≡ table s es) × IsFirstOf s es true start 0 text) first after (steps_still me c start []) (λ f q known. known)
       (λ f q stands known.
-      let found = first_of law s so.0 so.1 q.history true start text [] known.0 known.1 tt in
+      let found = first_of law s so.0 q.history true start text [] known.0 known.1 tt in
       (found.0, found.1, subst (IsFirstOf s found.0 true start 0) (append-nil text) found.2)) brings
 
   starts_with : (start : ℕ) (text : List ℕ) (first before after : StoreView) → BringsBeside me (StepsStill me c) AnyPast (λ f q. IsTableOf s q.history) first before
@@ -326,7 +326,7 @@ module _ (law : FirstLaw) (me : Actor) (s : TableSchema) (c : Consuming) (p : Pl
       stops e s p full text [] (begun after (any_trace (DidLatest (Err e)) middle after did)) (opened.0 ∙ ap (and_then out.taken) (sym (append-nil text)))
       (bring_weaker me (StepsStill me c) (Steps me c p.next []) AnyPast AnyPast (λ f q. Kept q.history × IsToldTo c e f q)
       (λ f q. (es : List Entry) × (q.history ≡ table s es) × IsFirstOf s es full p.next 0 (text ++ [])) first after (steps_still me c p.next []) (λ f q so. so)
-      (λ f q stands both. first_of law s so.0 so.1 q.history full p.next text [] both.0.0 both.0.1 tt) known)
+      (λ f q stands both. first_of law s so.0 q.history full p.next text [] both.0.0 both.0.1 tt) known)
       (bring_weaker me (StepsStill me c) (Steps me c p.next []) AnyPast AnyPast (λ f q. Kept q.history × IsToldTo c e f q) (IsToldTo c e) first after
       (steps_still me c p.next []) (λ f q so. so) (λ f q stands both. both.1) known)
 
@@ -359,7 +359,7 @@ module _ (law : FirstLaw) (me : Actor) (s : TableSchema) (c : Consuming) (p : Pl
         bring_known me (Steps me c p.next moved) AnyPast AnyPast
         (λ f q. Kept q.history × (IsListed s latest q.history × AreFramesFrom q.history p.next frames))
         (λ f q. (es : List Entry) × (q.history ≡ table s es) × IsFirstOf s es full p.next (length frames) (text ++ joined frames)) first after (λ f q known. known)
-        (λ f q stands known. first_of law s so.0 so.1 q.history full p.next text frames known.0.0 known.0.1 known.1.1)
+        (λ f q stands known. first_of law s so.0 q.history full p.next text frames known.0.0 known.0.1 known.1.1)
         (bring_then me (Steps me c p.next moved) AnyPast (λ f q. Kept q.history × IsListed s latest q.history)
         (λ f q. Kept q.history × (IsListed s latest q.history × AreFramesFrom q.history p.next frames)) first now after
         (listed_now moved)

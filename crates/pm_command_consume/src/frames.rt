@@ -4,7 +4,7 @@ ghost use Rattle.std.specs.Prelude.{◌≤◌, IfOk};
 ghost use Rattle.std.specs.Result.{result_err};
 ghost use Rattle.pm_io.specs.Sink.{SinkLater};
 ghost use Rattle.pm_model_folder.specs.Changes.{Actor};
-ghost use Rattle.pm_read_frame.specs.Meaning.{HasOneLog};
+ghost use Rattle.pm_read_frame.specs.Meaning.{HasProducer};
 ghost use Rattle.pm_schema.specs.Again.{IsDeclared};
 ghost use Rattle.pm_snapshot.specs.Names.{greatest};
 ghost use Rattle.pm_store.specs.Store.{IsLater};
@@ -39,7 +39,7 @@ pub(crate) fn hand_out_frames<W: Sink, F: FileStore>(
     requires latest { latest ≤ greatest }
     ensures hands { HandsFrames schema.now consuming.now place latest (W.seen out.old) (W.seen out.new)
         (F.seen store.old) (F.seen store.new) (result_err result) }
-    ensures beside { (me : Actor) → HasOneLog schema.now → FramesBeside me schema.now consuming.now place latest
+    ensures beside { (me : Actor) → HasProducer schema.now → FramesBeside me schema.now consuming.now place latest
         (W.seen out.old) (W.seen out.new) (F.seen store.old) (F.seen store.new) (result_err result) }
     ensures out_later { SinkLater (W.seen out.old) (W.seen out.new) }
     ensures store_later { IsLater (F.seen store.old) (F.seen store.new) }
@@ -68,7 +68,7 @@ fn hand_out<W: Sink, F: FileStore>(
     requires within { place.next ≤ greatest }
     ensures hands { HandsPiece schema.now consuming.now place (W.seen out.old) (W.seen out.new) (F.seen store.old)
         (F.seen store.new) result }
-    ensures beside { (me : Actor) → HasOneLog schema.now → HandsBeside me schema.now consuming.now place
+    ensures beside { (me : Actor) → HasProducer schema.now → HandsBeside me schema.now consuming.now place
         (W.seen out.old) (W.seen out.new) (F.seen store.old) (F.seen store.new) result }
     ensures place { IfOk result IsPlace }
     ensures out_later { SinkLater (W.seen out.old) (W.seen out.new) }

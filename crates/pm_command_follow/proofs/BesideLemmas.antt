@@ -14,9 +14,8 @@ use Rattle.pm_model_history.specs.Merged.{scan_text}
 use Rattle.pm_model_following.specs.Following.{HaveBases, change, followed, frame, frame_head, passed_rows, table_text}
 use Rattle.pm_model_folder.specs.Folder.{Folder, HasTable}
 use Rattle.pm_model_folder.specs.Ledger.{IsKnown, count_of}
-use Rattle.pm_draft.specs.Built.{IsBuilt}
 use Rattle.pm_read_frame.specs.Frames.{AreFramesFrom, joined}
-use Rattle.pm_read_frame.specs.Meaning.{HasOneLog}
+use Rattle.pm_read_frame.specs.Meaning.{HasProducer}
 use Rattle.pm_command_follow.specs.Beside.{ArePieces, IsFirstOf, IsPassedOf, IsStartOf}
 use Rattle.pm_command_follow.specs.Follow.{TellsChanges}
 use Rattle.pm_command_follow.specs.Printed.{count_from, follow_text, frames_text, table_head, text_so_far}
@@ -26,14 +25,10 @@ use Rattle.pm_command_follow.proofs.TextLemmas.{follow_split}
 pub record Laws : Type 0 where
   pub within : (s : TableSchema) (es : List Entry) (id : ℕ) (texts : List (List ℕ)) → AreFramesFrom (table s es) id texts
       → length texts ≤ suc (length es) - id
-  pub text : (s : TableSchema) (es : List Entry) (id : ℕ) (texts : List (List ℕ)) → HasOneLog s → AreFramesFrom (table s es) id texts
+  pub text : (s : TableSchema) (es : List Entry) (id : ℕ) (texts : List (List ℕ)) → HasProducer s → AreFramesFrom (table s es) id texts
       → joined texts ≡ flat_map (frame s es) (range_with_len id (length texts))
   pub table : (s : TableSchema) (es more : List Entry) (n : ℕ) → HaveBases 1 es → n ≤ length es → followed s (es ++ more) n ≡ followed s es n
   pub change : (s : TableSchema) (es more : List Entry) (n : ℕ) → HaveBases 1 es → n ≤ length es → change s (es ++ more) n ≡ change s es n
-
-module _ (s : TableSchema) (tells : TellsChanges s) (built : IsBuilt s) where
-  one_log : HasOneLog s
-  one_log = record { producer = tells; bucket = built.bucket; partition = built.partition }
 
 -- ---- the starting table
 
@@ -65,15 +60,15 @@ module _ (s : TableSchema) (es : List Entry) (id : ℕ) (rows : List ℕ) (is : 
 
 -- ---- the pieces together
 
-module _ (laws : Laws) (s : TableSchema) (tells : TellsChanges s) (built : IsBuilt s) where
+module _ (laws : Laws) (s : TableSchema) (tells : TellsChanges s) where
   together : (es : List Entry) (full : Bool) (start : ℕ) (first : List ℕ) (frames : List (List ℕ)) → IsStartOf (table s es) full start first
       → AreFramesFrom (table s es) start frames → first ++ joined frames ≡ text_so_far s es full start (length frames)
   together es false start first frames none are =
-      ap (λ (first : List ℕ). first ++ joined frames) none ∙ laws.text s es start frames (one_log s tells built) are
+      ap (λ (first : List ℕ). first ++ joined frames) none ∙ laws.text s es start frames tells are
   together es true start first frames (rows, scan, is) are =
       ap (λ (first : List ℕ). first ++ joined frames)
       (is ∙ ap (λ (rows : List ℕ). table_head (start - 1) ++ rows) (scan_is s es (start - 1) rows scan laws))
-      ∙ ap (λ (text : List ℕ). table_text s es (start - 1) ++ text) (laws.text s es start frames (one_log s tells built) are)
+      ∙ ap (λ (text : List ℕ). table_text s es (start - 1) ++ text) (laws.text s es start frames tells are)
 
   pub are_first : (es : List Entry) (full : Bool) (start : ℕ) (first : List ℕ) (frames : List (List ℕ)) → ArePieces (table s es) full start first frames
       → IsFirstOf s es full start (length frames) (first ++ joined frames)

@@ -36,7 +36,7 @@ use Rattle.pm_scan.specs.Asked.{passed_at}
 use Rattle.pm_scan.specs.declared.rows.Rows.TheVariants as shown
 use Rattle.pm_read_frame.specs.AllCalls as frame_calls
 use Rattle.pm_read_frame.specs.AllCalls.{DidFrame, ReadsFrame}
-use Rattle.pm_read_frame.specs.Meaning.{HasOneLog}
+use Rattle.pm_read_frame.specs.Meaning.{HasProducer}
 use Rattle.pm_command.specs.Table as tables
 use Rattle.pm_command.proofs.TableLemmas.{files_of, images_rest, judged_caused, leaves_of, rests_of}
 use Rattle.pm_command_follow.specs.Follow.{AnswersHistory, AreThere, DidTable, Ends, FollowsAny, GoesOn, HasFollowedTable, HasSchema, IsFollowed, Lists, MayRefuse, MayStartAt, MayStop, Opens, Prints, PrintsPrefix, PrintsTable, ReadsAll, ReadsFrames, ReadsTable, ShowsFirst, ShowsSchema, Starts, StopsAfter, TellsChanges, Then, Took, TookPart, TookPieces, all, fails_frame, fails_table, in_frame, in_table, of_listing, of_producer, of_reader, of_schema, of_start, of_table, of_unbuilt, refused_first, refused_frame, refused_listing}
@@ -207,8 +207,8 @@ module _ (laws : Laws) (f : Files) (h : History) (folder : Folder f h) where
 
   -- ---- the frames
 
-  pub one_log : (t : TableSchema) → IsOf h t → HasOneLog t
-  one_log t of = record { producer = of.tells; bucket = of.built.bucket; partition = of.built.partition }
+  pub has_producer : (t : TableSchema) → IsOf h t → HasProducer t
+  has_producer t of = of.tells
 
   record HasFrames (t : TableSchema) (start count : ℕ) (text : List ℕ) : Type 0 where
     text_is : text ≡ frames_text t es start count
@@ -248,7 +248,7 @@ module _ (laws : Laws) (f : Files) (h : History) (folder : Folder f h) where
         read.files,
         record {
           text_is = is ∙ ap (λ (text : List ℕ). text ++ frame_text) so.text_is
-              ∙ ap (λ (text : List ℕ). frames_text t es start count ++ text) (read.text (one_log t of)) ∙ sym (frames_push t es start count);
+              ∙ ap (λ (text : List ℕ). frames_text t es start count ++ text) (read.text (has_producer t of)) ∙ sym (frames_push t es start count);
           there = one_more t start count so.there there;
         },
       ))
@@ -504,7 +504,7 @@ module _ (laws : Laws) (f : Files) (h : History) (folder : Folder f h) where
       let read = frame_at t (start + count) (Ok frame_text) later middle last goes.starts.of low within did more in
       let there : IsSome (map.get f (path_of t (start + count))) =
       subst (λ (path : List ℕ). IsSome (map.get f path)) (sym (path_is t (start + count) low)) read.there in
-      (read.files, (read.text (one_log t goes.starts.of), there))) in
+      (read.files, (read.text (has_producer t goes.starts.of), there))) in
       let t = so.1.t in
       let start = so.1.start in
       let goes = so.1.goes in

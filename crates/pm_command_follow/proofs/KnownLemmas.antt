@@ -13,7 +13,6 @@ use Rattle.pm_schema.specs.declared.schema.TableSchema.{TableSchema}
 use Rattle.pm_snapshot.specs.Names.{greatest}
 use Rattle.pm_model_history.specs.History.{Entry, GoesOn, History, IsTableOf, no_table, table}
 use Rattle.pm_model_folder.specs.Ledger.{Past, Stands, count_of}
-use Rattle.pm_draft.specs.Built.{IsBuilt}
 use Rattle.pm_read_schema.specs.Beside.{AnyPast, IsTold, Learns}
 use Rattle.pm_read_schema.proofs.BesideFacts.{PastStays, learns-none, learns-then, learns-weaker}
 use Rattle.pm_read_latest.specs.AllCalls.{DidLatest}
@@ -40,7 +39,7 @@ use Rattle.pm_command_follow.proofs.WhyLemmas.{why_frames, why_listing, why_star
 
 -- what the law of pieces says of the first of them
 abbrev pub FirstLaw : Type 0
-FirstLaw = (s : TableSchema) (es : List Entry) (full : Bool) (start : ℕ) (first : List ℕ) (frames : List (List ℕ)) → TellsChanges s → IsBuilt s
+FirstLaw = (s : TableSchema) (es : List Entry) (full : Bool) (start : ℕ) (first : List ℕ) (frames : List (List ℕ)) → TellsChanges s
     → ArePieces (table s es) full start first frames → IsFirstOf s es full start (length frames) (first ++ joined frames)
 
 -- what the law of frames says of one that is known
@@ -239,23 +238,23 @@ all_learned s start latest id first last store after low above bound learned =
 -- ---- what that is of a following
 
 -- pieces that are known of a history are the first of what is printed of its table
-pub first_of : FirstLaw → (s : TableSchema) → TellsChanges s → IsBuilt s → (h : History) (full : Bool) (start : ℕ) (first : List ℕ) (frames : List (List ℕ))
+pub first_of : FirstLaw → (s : TableSchema) → TellsChanges s → (h : History) (full : Bool) (start : ℕ) (first : List ℕ) (frames : List (List ℕ))
     → IsTableOf s h → IsStartOf h full start first → AreFramesFrom h start frames
     → (es : List Entry) × (h ≡ table s es) × IsFirstOf s es full start (length frames) (first ++ joined frames)
-first_of law s tells built no_table full start first frames is base each = absurd is
-first_of law s tells built (table t es) full start first frames is base each = (
+first_of law s tells no_table full start first frames is base each = absurd is
+first_of law s tells (table t es) full start first frames is base each = (
   es,
   ap (λ (t : TableSchema). table t es) is,
-  law s es full start first frames tells built
+  law s es full start first frames tells
       (subst (λ (t : TableSchema). ArePieces (table t es) full start first frames) is (record { base = base; each = each })),
 )
 
--- the table is built and tells its changes
-started_schema : (s : TableSchema) (from : Option ℕ) (start : ℕ) (own : List Event) → Starts s from start own → TellsChanges s × IsBuilt s
-started_schema s from start own (latest, (earlier, later, (tells, built, did), listed, is), at, low, high) = (tells, built)
+-- the table tells its changes
+started_schema : (s : TableSchema) (from : Option ℕ) (start : ℕ) (own : List Event) → Starts s from start own → TellsChanges s
+started_schema s from start own (latest, (earlier, later, (tells, built, did), listed, is), at, low, high) = tells
 
 opened_schema : (s : TableSchema) (from : Option ℕ) (full : Bool) (start : ℕ) (text : List ℕ) (first after : StoreView)
-    → HasTrace (Opens s from full start text) first after → TellsChanges s × IsBuilt s
+    → HasTrace (Opens s from full start text) first after → TellsChanges s
 opened_schema s from full start text first after (own, (earlier, later, starts, reads, is), trace) = started_schema s from start earlier starts
 
 -- the starting table stays
@@ -264,13 +263,13 @@ pub starting_on : (s : TableSchema) (full : Bool) (start : ℕ) (text : List ℕ
 starting_on s full start text h later goes known = (table_on s h later goes known.0, start_on full start text h later goes known.1)
 
 -- the starting table alone
-begun_first : FirstLaw → (s : TableSchema) (full : Bool) (start : ℕ) (text : List ℕ) (first after : StoreView) → TellsChanges s × IsBuilt s
+begun_first : FirstLaw → (s : TableSchema) (full : Bool) (start : ℕ) (text : List ℕ) (first after : StoreView) → TellsChanges s
     → Learns AnyPast (λ f p. IsStarting s full start text p) first after → LearnsFirst s full start 0 text first after
 begun_first law s full start text first after so =
     learns-weaker AnyPast AnyPast (λ f p. IsStarting s full start text p)
     (λ f p. (es : List Entry) × (p.history ≡ table s es) × IsFirstOf s es full start 0 text) first after (λ f p known. known)
     (λ f p stands known. (
-    let found = first_of law s so.0 so.1 p.history full start text [] known.0 known.1 tt in
+    let found = first_of law s so p.history full start text [] known.0 known.1 tt in
     (found.0, found.1, subst (IsFirstOf s found.0 full start 0) (append-nil text) found.2)))
 
 -- and the snapshots that were listed after it
@@ -287,13 +286,13 @@ listed_begun s full start latest text first before now begun listed =
 
 -- and with frames behind it
 frames_first : FirstLaw → (s : TableSchema) (full : Bool) (start latest : ℕ) (text : List ℕ) (frames : List (List ℕ)) (first before now after : StoreView)
-    → TellsChanges s × IsBuilt s → Learns AnyPast (λ f p. IsStarting s full start text p) first before
+    → TellsChanges s → Learns AnyPast (λ f p. IsStarting s full start text p) first before
     → Learns AnyPast (λ f p. (latest ≤ greatest) × (latest ≤ count_of p.history)) before now → LearnsFrames s start latest frames now after
     → LearnsFirst s full start (length frames) (text ++ joined frames) first after
 frames_first law s full start latest text frames first before now after so begun listed learned =
     learns-weaker AnyPast AnyPast (λ f p. IsStartOf p.history full start text × (IsListed s latest p × AreFramesFrom p.history start frames))
     (λ f p. (es : List Entry) × (p.history ≡ table s es) × IsFirstOf s es full start (length frames) (text ++ joined frames)) first after (λ f p known. known)
-    (λ f p stands known. first_of law s so.0 so.1 p.history full start text frames known.1.0.0 known.0 known.1.1)
+    (λ f p stands known. first_of law s so p.history full start text frames known.1.0.0 known.0 known.1.1)
     (learns-then AnyPast (λ f p. IsStartOf p.history full start text × IsListed s latest p)
     (λ f p. IsStartOf p.history full start text × (IsListed s latest p × AreFramesFrom p.history start frames)) first now after
     (listed_begun s full start latest text first before now begun listed)

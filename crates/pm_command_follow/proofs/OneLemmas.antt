@@ -34,7 +34,10 @@ use Rattle.pm_scan.specs.declared.rows.Rows.TheVariants as shown
 use Rattle.pm_scan.proofs.OneLemmas as scans
 use Rattle.pm_scan.proofs.OneLemmas.{one_view, same_asked}
 use Rattle.pm_read_log.specs.Log.{LogAskedView, log_asked_of}
+use Rattle.pm_values.specs.declared.record.Stamped.{Stamped}
+use Rattle.pm_merged_log.specs.Merged.{merged_frame}
 use Rattle.pm_read_frame.specs.AllCalls.{DidFrame}
+use Rattle.pm_read_frame.specs.Trace.{HasFrame}
 use Rattle.pm_read_frame.proofs.OneLemmas as frame
 use Rattle.pm_command_follow.specs.Answer.{IsUnshown}
 use Rattle.pm_command_follow.specs.Follow.{DidTable, Ends, GoesOn, HasSchema, Lists, ReadsAll, ReadsFrames, ReadsTable, ShowsFirst, ShowsSchema, Starts, TellsChanges, all, fails_frame, fails_table, of_listing, of_producer, of_reader, of_schema, of_start, of_table, of_unbuilt, refused_first, refused_frame, refused_listing}
@@ -216,44 +219,49 @@ module _ (c : Chosen) where
 -- ---- a frame
 
 module _ (a : LogAskedView) where
+  -- all files of the changelog were read, whose rows make this text
   abbrev pub Framed : List ℕ → List Event → Type 0
-  Framed text own = Leads (frame.Goes a) own frame.opening (frame.files [] text)
+  Framed text own = (rows : List Stamped) × Leads (frame.Goes a) own frame.opening (frame.files [] rows) × (text ≡ merged_frame a.schema a.id rows)
 
   abbrev pub FrameRefused : Refusal → List Event → Type 0
   FrameRefused e own = Leads (frame.Goes a) own frame.opening (frame.over e)
 
   abbrev IsFrameEnd : frame.Place → Type 0
-  IsFrameEnd (frame.files [] text) = Unit {0}
+  IsFrameEnd (frame.files [] rows) = Unit {0}
   IsFrameEnd (frame.over e) = Unit {0}
   IsFrameEnd m = ⊥
 
   frame_stay : Stays (frame.Goes a) IsFrameEnd
-  frame_stay (frame.files [] text) new event ends goes = goes.0
+  frame_stay (frame.files [] rows) new event ends goes = goes.0
   frame_stay (frame.over e) new event ends goes = goes.0
   frame_stay m new event ends goes = absurd ends
 
-  same_text : (text other : List ℕ) → frame.files [] text ≡ frame.files [] other → text ≡ other
-  same_text text other is = cc
+  same_rows : (rows other : List Stamped) → frame.files [] rows ≡ frame.files [] other → rows ≡ other
+  same_rows rows other is = cc
 
-  frame_over : (text : List ℕ) (e : Refusal) → frame.files [] text ≡ frame.over e → ⊥
-  frame_over text e is = cc
+  frame_over : (rows : List Stamped) (e : Refusal) → frame.files [] rows ≡ frame.over e → ⊥
+  frame_over rows e is = cc
 
   one_over : (e d : Refusal) → frame.over e ≡ frame.over d → e ≡ d
   one_over e d is = cc
 
+  pub framed : (text : List ℕ) (own : List Event) → HasFrame a text own → Framed text own
+  framed text own (l, rows, part, is) =
+      (rows, frame.part_lead a l rows [] own part, is ∙ ap (λ (s : TableSchema). merged_frame s a.id rows) (frame.log_schema a l part.first part.logged))
+
   module _ (laws : frame.OneLaws) where
     same_framed : (text others : List ℕ) (first other more rest : List Event) → Framed text first → Framed others other → first ++ more ≡ other ++ rest
         → (text ≡ others) × (more ≡ rest)
-    same_framed text others first other more rest lead led is =
-        let end = one_end (frame.Goes a) IsFrameEnd (frame.are_one laws a) frame_stay first other more rest frame.opening (frame.files [] text) (frame.files [] others) is
+    same_framed text others first other more rest (rows, lead, made) (also, led, made_too) is =
+        let end = one_end (frame.Goes a) IsFrameEnd (frame.are_one laws a) frame_stay first other more rest frame.opening (frame.files [] rows) (frame.files [] also) is
         lead tt led tt in
-        (same_text text others end.1, end.2)
+        (made ∙ ap (merged_frame a.schema a.id) (same_rows rows also end.1) ∙ sym made_too, end.2)
 
     framed_apart : (text : List ℕ) (first more : List Event) (e : Refusal) → Framed text first → FrameRefused e (first ++ more) → ⊥
-    framed_apart text first more e lead led =
-        let end = one_end (frame.Goes a) IsFrameEnd (frame.are_one laws a) frame_stay first (first ++ more) more [] frame.opening (frame.files [] text) (frame.over e)
+    framed_apart text first more e (rows, lead, made) led =
+        let end = one_end (frame.Goes a) IsFrameEnd (frame.are_one laws a) frame_stay first (first ++ more) more [] frame.opening (frame.files [] rows) (frame.over e)
         (sym (append-nil (first ++ more))) lead tt led tt in
-        frame_over text e end.1
+        frame_over rows e end.1
 
     pub frame_stage : IsStage Framed FrameRefused
     frame_stage = record {
@@ -261,7 +269,7 @@ module _ (a : LogAskedView) where
       apart = framed_apart;
       one = λ e d own refused denied.
           one_over e d (one_lead (frame.Goes a) (frame.are_one laws a) own frame.opening (frame.over e) (frame.over d) refused denied);
-      whole = λ text own did. frame.leads_answered a own (frame.files [] text) did;
+      whole = λ text own did. frame.leads_answered a own (frame.files [] did.0) did.1;
       ended = λ e own refused. frame.leads_answered a own (frame.over e) refused;
     }
 
@@ -377,9 +385,8 @@ in_frames zero left s start text own more x (nothing, none) then =
 in_frames (suc count) left s start text own more x (before, last, (earlier, later, reads, did, is), at) then =
     let id : start + suc count ≡ (start + count) + 1 = omega arith in
     let size : count + suc left ≡ suc count + left = omega arith in
-    let framed = frame.part_lead (log_asked_of s (start + count)) did.0 last [] later did.1 in
     let next : Frames (suc left) s (start + count) (later ++ more) x =
-    inl (last, later, more, framed, refl, subst (λ (id : ℕ). Frames left s id more x) id then) in
+    inl (last, later, more, framed (log_asked_of s (start + count)) last later did, refl, subst (λ (id : ℕ). Frames left s id more x) id then) in
     subst (λ (left : ℕ). Frames left s start (own ++ more) x) size
     (subst (λ (own : List Event). Frames (count + suc left) s start own x) (sym (append_assoc earlier later more) ∙ ap (λ (own : List Event). own ++ more) (sym is))
     (in_frames count (suc left) s start before earlier (later ++ more) x reads next))
@@ -503,7 +510,7 @@ frame_refused s id e own did = by (frame.is_shown (log_asked_of s id) (Err e) ow
     by (frame.of_memory memory) = inl (same_err e refusals.Memory memory)
     by (frame.of_failure d is fails) = inr (inl (subst (λ (e : Refusal). Fails e own) (sym (same_err e d is)) fails))
     by (frame.of_refusal d is lead) = inr (inr (subst (λ (e : Refusal). FrameRefused (log_asked_of s id) e own) (sym (same_err e d is)) lead))
-    by (frame.of_frame text is lead) = absurd (no_text text is)
+    by (frame.of_frame rows is lead) = absurd (no_text (merged_frame s id rows) is)
 
 module _ (laws : view.OneLaws) (from : Option ℕ) (full : Bool) where
   -- what is shown at the end of some calls is shown by all of them

@@ -13,7 +13,6 @@ ghost use Rattle.pm_options.specs.declared.kinds.Producer.TheVariants.{Input};
 ghost use Rattle.pm_schema.specs.declared.schema.TableSchema.{TableSchema};
 ghost use Rattle.pm_model_history.specs.History.{Entry as Commit, rows_up_to, table};
 ghost use Rattle.pm_model_history.specs.Merged.{scan_text};
-ghost use Rattle.pm_draft.specs.Built.{IsBuilt};
 ghost use Rattle.pm_model_following.specs.Following.{IsFinished, table_text};
 ghost use Rattle.pm_model_folder.specs.Folder.{HasTable};
 ghost use Rattle.pm_read_frame.specs.Frames.{joined};
@@ -100,10 +99,10 @@ pub fn complete_law()
 /// listing, they are all that is printed of the table as it was at that listing.
 pub fn pieces_law()
     ensures first { (s : TableSchema) (entries : List Commit) (full : Bool) (start : ℕ) (first : List ℕ)
-        (frames : List (List ℕ)) → TellsChanges s → IsBuilt s → ArePieces (table s entries) full start first frames
+        (frames : List (List ℕ)) → TellsChanges s → ArePieces (table s entries) full start first frames
         → IsFirstOf s entries full start (length frames) (first ++ joined frames) }
     ensures all { (f : Files) (s : TableSchema) (entries more : List Commit) (full : Bool) (start : ℕ) (first : List ℕ)
-        (frames : List (List ℕ)) → HasTable f s entries → TellsChanges s → IsBuilt s → start ≤ suc (length entries)
+        (frames : List (List ℕ)) → HasTable f s entries → TellsChanges s → start ≤ suc (length entries)
         → ArePieces (table s (entries ++ more)) full start first frames
         → length frames ≡ count_from start (length entries)
         → first ++ joined frames ≡ follow_text s entries (Some start) full }

@@ -1,5 +1,5 @@
 -- All calls of a reader of a frame, and what they say where nobody else acts.
-use Rattle.std.proofs.Common.{◌≡◌, ◌⊎◌, inl, inr, ℕ, ◌<◌, ◌≤◌, List, [], ◌∷◌, length, IfOk, IfErr, IsSome, Result, Ok, Err, Vec, refl, sym, subst, ◌∙◌, arith}
+use Rattle.std.proofs.Common.{◌≡◌, ◌⊎◌, inl, inr, ℕ, ◌<◌, ◌≤◌, List, [], ◌∷◌, length, IfOk, IfErr, IsSome, Result, Ok, Err, Vec, refl, sym, ap, subst, ◌∙◌, arith}
 use Rattle.std.specs.FinMap as map
 use Rattle.std.specs.Global.{Global}
 use Rattle.pm_values.specs.declared.refusal.Refusal.{Refusal}
@@ -26,15 +26,16 @@ use Rattle.pm_read_log.specs.LogTrace as log_trace
 use Rattle.pm_read_log.specs.declared.log_phase.LogPhase.{LogPhase}
 use Rattle.pm_read_log.specs.declared.log_phase.LogPhase.TheVariants as logs
 use Rattle.pm_read_log.proofs.LogFacts as log_facts
+use Rattle.pm_merged_log.specs.Merged.{merged_frame}
 use Rattle.pm_read_frame.specs.AllCalls.{DidFrame, Ends, IsCaused, ReadsFrames}
-use Rattle.pm_read_frame.specs.Meaning.{HasOneLog}
+use Rattle.pm_read_frame.specs.Meaning.{HasProducer}
 use Rattle.pm_read_frame.specs.Reader.{next_call, calls_left, IsReady}
 use Rattle.pm_read_frame.specs.Trace.{DidSoFar, MayTakeMemory, Shows, Did}
 use Rattle.pm_read_frame.specs.declared.phase.Phase.{Phase}
 use Rattle.pm_read_frame.specs.declared.phase.Phase.TheVariants as phases
 use Rattle.pm_read_frame.proofs.AtLemmas.{AtLaws, KnowsAt, lead_at, text_at}
 use Rattle.pm_read_frame.proofs.Facts.{spares}
-use Rattle.pm_read_frame.proofs.OneLemmas.{CallAt, Goes, IsShown, LeadsTo, Place, absent_lead, again, files, is_shown, lacks_lead, listing, log_part_lead, manifests, named_lead, of_failure, of_frame, of_memory, of_refusal, opening, over, part_lead}
+use Rattle.pm_read_frame.proofs.OneLemmas.{CallAt, Goes, IsShown, LeadsTo, Place, absent_lead, again, files, is_shown, lacks_lead, listing, log_part_lead, log_schema, manifests, named_lead, of_failure, of_frame, of_memory, of_refusal, opening, over, part_lead}
 
 -- ---- its calls change nothing
 
@@ -43,7 +44,7 @@ at_still a opening call is = subst IsStill (sym is) (read_still (snapshot_path a
 at_still a (listing list) call is = subst IsStill (sym is) (read_still (manifest_path list))
 at_still a (manifests (meta ∷ rest) es) call is = subst IsStill (sym is) (read_still (manifest_path meta.name))
 at_still a (again path) call is = subst IsStill (sym is) (read_still (snapshot_path a.id))
-at_still a (files (file ∷ rest) text) call is = subst IsStill (sym is) (read_still file.path)
+at_still a (files (file ∷ rest) rows) call is = subst IsStill (sym is) (read_still file.path)
 at_still a m call is = absurd is
 
 leads_still : (a : LogAskedView) (own : List Event) (m last : Place) → Leads (Goes a) own m last → AreStill own
@@ -70,7 +71,7 @@ log_did a logs.Over own called did = absurd (let clash = called in cc)
 so_far : (a : LogAskedView) (m : Phase) (own : List Event) → IsSome (next_call m) → DidSoFar a m own → AreStill own
 so_far a (phases.Log r) own called did = log_did a r own called did
 so_far a (phases.Files r) own called (l, same, id, part) =
-    leads_still a own opening (files (r.next ∷ r.rest) r.text) (part_lead a l r.text (r.next ∷ r.rest) own part)
+    leads_still a own opening (files (r.next ∷ r.rest) r.rows) (part_lead a l r.rows (r.next ∷ r.rest) own part)
 so_far a (phases.Again id path) own called (same, lacks) = leads_still a own opening (again path) (absent_lead a path own lacks)
 so_far a (phases.Ready id text) own called did = absurd (let clash = called in cc)
 so_far a phases.Over own called did = absurd did
@@ -91,7 +92,7 @@ shown_still : (a : LogAskedView) (e : Refusal) (own : List Event) → IsFound e 
 shown_still a e own found (of_memory is) = absurd (subst IsFound (err_same e refusals.Memory is) found)
 shown_still a e own found (of_failure d is (earlier, call, was, at)) = absurd (subst IsFound (err_same e d is ∙ was) found)
 shown_still a e own found (of_refusal d is lead) = leads_still a own opening (over d) lead
-shown_still a e own found (of_frame text is lead) = absurd (err_not e text is)
+shown_still a e own found (of_frame rows is lead) = absurd (err_not e (merged_frame a.schema a.id rows) is)
 
 found_still : (a : LogAskedView) (e : Refusal) (own : List Event) → IsFound e → Shows a e own → AreStill own
 found_still a e own found shows = shown_still a e own found (is_shown a (Err e) own shows)
@@ -109,7 +110,7 @@ shows_still a e own (inl shows) = absurd shows
 shows_still a e own (inr shows) = absurd shows
 
 ends_still : (a : LogAskedView) (made : Result (List ℕ) Refusal) (own : List Event) → Ends a made own → AreStill own
-ends_still a (Ok text) own (l, part) = leads_still a own opening (files [] text) (part_lead a l text [] own part)
+ends_still a (Ok text) own (l, rows, part, is) = leads_still a own opening (files [] rows) (part_lead a l rows [] own part)
 ends_still a (Err e) own shows = shows_still a e own shows
 
 -- ---- what they say of the files
@@ -137,13 +138,14 @@ module _ (laws : AtLaws) (f : Files) (s : TableSchema) (entries : List Entry) (f
   cause_at first after e own (of_refusal d is lead) told trace =
       let known = reach own (over d) told lead in
       subst (IsCaused f id first after) (sym (err_same e d is ∙ known.0)) (refl, known.1)
-  cause_at first after e own (of_frame text is lead) told trace = absurd (err_not e text is)
+  cause_at first after e own (of_frame rows is lead) told trace = absurd (err_not e (merged_frame s id rows) is)
 
   read_at : (first after : StoreView) (made : Result (List ℕ) Refusal) (own : List Event) → Ends a made own → AreTold f own → Traces own first after
-      → IfOk made (λ text. (id ≤ length entries) × IsSome (map.get f (snapshot_path id)) × (HasOneLog s → text ≡ frame s entries id))
+      → IfOk made (λ text. (id ≤ length entries) × IsSome (map.get f (snapshot_path id)) × (HasProducer s → text ≡ frame s entries id))
       × IfErr made (IsCaused f id first after)
-  read_at first after (Ok text) own (l, part) told trace =
-      (text_at laws f s entries folder id least named text (reach own (files [] text) told (part_lead a l text [] own part)), tt)
+  read_at first after (Ok text) own (l, rows, part, is) told trace =
+      let made : text ≡ merged_frame s id rows = is ∙ ap (λ (t : TableSchema). merged_frame t id rows) (log_schema a l part.first part.logged) in
+      (text_at laws f s entries folder id least named rows text made (reach own (files [] rows) told (part_lead a l rows [] own part)), tt)
   read_at first after (Err e) own shows told trace = (tt, cause_at first after e own (is_shown a (Err e) own shows) told trace)
 
 -- ---- all calls
@@ -159,7 +161,7 @@ frame_history laws s id made before after least (own, did, trace) = λ alone f e
     let rest = Traces-first own before after trace in
     let stay = stayed f own first after (ends_still (log_asked_of s id) made own did) rest alone has in
     let so = read_at laws f s entries folder id least named first after made own did stay.1 rest in
-    let parts = both_parts made (λ text. id ≤ length entries) (λ text. IsSome (map.get f (snapshot_path id))) (λ text. HasOneLog s → text ≡ frame s entries id) so.0 in
+    let parts = both_parts made (λ text. id ≤ length entries) (λ text. IsSome (map.get f (snapshot_path id))) (λ text. HasProducer s → text ≡ frame s entries id) so.0 in
     record { files = stay.0; within = parts.0; there = parts.1; text = parts.2; cause = so.1 }
 
 -- ---- steps in a row

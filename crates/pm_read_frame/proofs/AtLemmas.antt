@@ -3,6 +3,7 @@ use Rattle.std.proofs.Common.{◌≡◌, ◌≢◌, ◌⊎◌, inl, inr, ℕ, �
 use Rattle.std.specs.FinMap as map
 use Rattle.std.specs.List.{AllByRecursion}
 use Rattle.pm_base.proofs.Laws.{AllByRecursion-parts}
+use Rattle.pm_values.specs.declared.record.Stamped.{Stamped}
 use Rattle.pm_values.specs.declared.refusal.Refusal.{Refusal}
 use Rattle.pm_values.specs.declared.refusal.Refusal.TheVariants as refusals
 use Rattle.pm_store.specs.Answers.{Answers}
@@ -24,7 +25,7 @@ use Rattle.pm_manifest.specs.declared.entry.Entry as manifest
 use Rattle.pm_manifest.specs.declared.entry.ManifestMeta.{ManifestMeta}
 use Rattle.pm_model_contents.specs.Lists.{HasChangelog, HaveEntries, IsChangelogEntry, IsList, IsManifest, manifest_path}
 use Rattle.pm_model_history.specs.History.{Entry}
-use Rattle.pm_model_following.specs.Following.{frame, frame_head}
+use Rattle.pm_model_following.specs.Following.{frame}
 use Rattle.pm_model_folder.specs.Commits.{IsCommitted}
 use Rattle.pm_model_folder.specs.Folder.{HasTable}
 use Rattle.pm_model_folder.specs.Paths.{schema_path, snapshot_path}
@@ -32,19 +33,19 @@ use Rattle.pm_model_folder.proofs.Facts.{snapshot-bounds}
 use Rattle.pm_read_schema.proofs.LeadLemmas.{Leads}
 use Rattle.pm_read_schema.proofs.StillLemmas.{AreTold}
 use Rattle.pm_read_log.specs.Log.{LogAskedView, log_asked_of}
-use Rattle.pm_read_frame.specs.Meaning.{HasOneLog}
+use Rattle.pm_merged_log.specs.Merged.{merged_frame}
+use Rattle.pm_read_frame.specs.Meaning.{HasProducer}
 use Rattle.pm_read_frame.specs.Taken.{HaveTaken, RefusesFile, file_of, files_of}
 use Rattle.pm_read_frame.specs.declared.file.ChangesFile.{ChangesFile}
 use Rattle.pm_read_frame.proofs.CauseLemmas.{OpensLaw, refused_not}
-use Rattle.pm_read_frame.proofs.ChangeLemmas.{ChangeKept, RowLaws, frame_is}
+use Rattle.pm_read_frame.proofs.ChangeLemmas.{FrameLaws, frame_is}
 use Rattle.pm_read_frame.proofs.OneLemmas.{After, CallAt, FileRead, Follows, Given, Goes, ListRead, ManifestRead, OneLaws, OpenedAs, Place, again, files, is_refused, is_taken, list_leads, listing, manifests, opening, opens, over, reads_on}
 use Rattle.pm_read_frame.proofs.StoodLemmas.{IsThere, NextOf, its_file, next_of, taken_more}
 
 pub record AtLaws : Type 0 where
   pub one : OneLaws
   pub opened : OpensLaw
-  pub rows : RowLaws
-  pub kept : ChangeKept
+  pub frame : FrameLaws
 
 bytes_same : (one other : List ℕ) → Some one ≡ Some other → one ≡ other
 bytes_same one other e = cc
@@ -85,8 +86,8 @@ module _ (laws : AtLaws) (f : Files) (s : TableSchema) (entries : List Entry) (f
   KnowsAt (manifests metas es) = (c : Commit) × (later : List manifest.Entry) × HaveEntries f s metas later × (c.committed.contents.changes ≡ es ++ later)
       × AllByRecursion IsChangelogEntry c.committed.contents.changes
   KnowsAt (again path) = ⊥
-  KnowsAt (files rest text) = (c : Commit) × (done : List ChangesFile) × (files_of s c.committed.contents.changes ≡ done ++ rest)
-      × HaveTaken f s done (frame_head id) text
+  KnowsAt (files rest rows) = (c : Commit) × (done : List ChangesFile) × (files_of s c.committed.contents.changes ≡ done ++ rest)
+      × HaveTaken f s done [] rows
   KnowsAt (over e) = (e ≡ refusals.Expired id) × (map.get f (snapshot_path id) ≡ None)
 
   on_at : (c : Commit) (metas : List ManifestMeta) (es later : List manifest.Entry) → HaveEntries f s metas later → c.committed.contents.changes ≡ es ++ later
@@ -166,15 +167,15 @@ module _ (laws : AtLaws) (f : Files) (s : TableSchema) (entries : List Entry) (f
       let n = next_of s c.committed.contents.changes done file rest parts in
       (n, its_file f s c.committed.contents.changes file n c.committed.changes.each)
 
-  taken_at : (c : Commit) (done : List ChangesFile) (file : ChangesFile) (rest : List ChangesFile) (text bytes : List ℕ) (new : Place)
-      → files_of s c.committed.contents.changes ≡ done ++ file ∷ rest → HaveTaken f s done (frame_head id) text → Some bytes ≡ map.get f file.path
-      → FileRead s file rest text bytes new → KnowsAt new
-  taken_at c done file rest text bytes new parts taken told (is_taken next took is) =
+  taken_at : (c : Commit) (done : List ChangesFile) (file : ChangesFile) (rest : List ChangesFile) (rows : List Stamped) (bytes : List ℕ) (new : Place)
+      → files_of s c.committed.contents.changes ≡ done ++ file ∷ rest → HaveTaken f s done [] rows → Some bytes ≡ map.get f file.path
+      → FileRead s file rest rows bytes new → KnowsAt new
+  taken_at c done file rest rows bytes new parts taken told (is_taken next took is) =
       at (files rest next) new is
-      (c, done ++ file ∷ [], parts ∙ sym (append_assoc done (file ∷ []) rest), taken_more f s done file bytes (frame_head id) text next taken (sym told) took)
-  taken_at c done file rest text bytes new parts taken told (is_refused e other bad is) =
+      (c, done ++ file ∷ [], parts ∙ sym (append_assoc done (file ∷ []) rest), taken_more f s done file bytes [] rows next taken (sym told) took)
+  taken_at c done file rest rows bytes new parts taken told (is_refused e other bad is) =
       let n = file_at c done file rest parts in
-      absurd (other (refused_not laws.opened laws.rows f s n.0.entry bytes e n.1
+      absurd (other (refused_not laws.opened laws.frame.rows f s n.0.entry bytes e n.1
       (subst (λ (file : ChangesFile). map.get f file.path ≡ Some bytes) n.0.is (sym told)) (subst (λ (file : ChangesFile). RefusesFile s file bytes e) n.0.is bad)))
 
   -- what an answer of the files leads to
@@ -198,13 +199,13 @@ module _ (laws : AtLaws) (f : Files) (s : TableSchema) (entries : List Entry) (f
   answer_at (manifests (meta ∷ rest) es) (answers.Found (Some bytes)) new read call made told (c, later, (own, others, split, is, have), parts, each) =
       let found : Some bytes ≡ map.get f (manifest_path meta.name) = subst (λ (call : Call). Answers call (answers.Found (Some bytes)) f) made told in
       read_at c meta rest es own others bytes new is have (parts ∙ ap (λ (later : List manifest.Entry). es ++ later) split) each found read
-  answer_at (files (file ∷ rest) text) (answers.Found None) new is call made told (c, done, parts, taken) =
+  answer_at (files (file ∷ rest) rows) (answers.Found None) new is call made told (c, done, parts, taken) =
       let none : None ≡ map.get f file.path = subst (λ (call : Call). Answers call (answers.Found None) f) made told in
       let n = file_at c done file rest parts in
       absurd (absent_not (map.get f (file_of s n.0.entry).path) n.1.1.bytes n.1.1.there (subst (λ (file : ChangesFile). None ≡ map.get f file.path) n.0.is none))
-  answer_at (files (file ∷ rest) text) (answers.Found (Some bytes)) new read call made told (c, done, parts, taken) =
+  answer_at (files (file ∷ rest) rows) (answers.Found (Some bytes)) new read call made told (c, done, parts, taken) =
       let found : Some bytes ≡ map.get f file.path = subst (λ (call : Call). Answers call (answers.Found (Some bytes)) f) made told in
-      taken_at c done file rest text bytes new parts taken found read
+      taken_at c done file rest rows bytes new parts taken found read
   answer_at (again path) answer new goes call made told known = absurd known
   answer_at m answer new goes call made told known = absurd goes
 
@@ -219,12 +220,13 @@ module _ (laws : AtLaws) (f : Files) (s : TableSchema) (entries : List Entry) (f
       lead_at own new last told rest (event_at m event.call event.answer new goes.0 goes.1 one known)
 
   -- all files were read
-  pub text_at : (text : List ℕ) → KnowsAt (files [] text) → (id ≤ length entries) × IsSome (map.get f (snapshot_path id)) × (HasOneLog s → text ≡ frame s entries id)
-  text_at text (c, done, parts, taken) =
+  pub text_at : (rows : List Stamped) (text : List ℕ) → text ≡ merged_frame s id rows → KnowsAt (files [] rows)
+      → (id ≤ length entries) × IsSome (map.get f (snapshot_path id)) × (HasProducer s → text ≡ frame s entries id)
+  text_at rows text made (c, done, parts, taken) =
       let whole : files_of s c.committed.contents.changes ≡ done = parts ∙ append-nil done in
-      let all : HaveTaken f s (files_of s c.committed.contents.changes) (frame_head id) text =
-      subst (λ (files : List ChangesFile). HaveTaken f s files (frame_head id) text) (sym whole) taken in (
+      let all : HaveTaken f s (files_of s c.committed.contents.changes) [] rows =
+      subst (λ (files : List ChangesFile). HaveTaken f s files [] rows) (sym whole) taken in (
         c.within,
         subst (λ (o : Option (List ℕ)). IsSome o) (sym c.committed.there.1) refl,
-        frame_is laws.rows laws.kept f s entries id c.committed.contents.changes text folder.history.bases c.within c.committed.changes all,
+        λ some. made ∙ frame_is laws.frame f f s entries id c.committed.contents.changes rows folder c.within c.committed.changes all some,
       )

@@ -70,14 +70,14 @@ LogCauses = (m : LogPhase) (call : Call) (answer : Answer) (refusal : Refusal) (
     → log.next_call m ≡ Some call → Answers call answer f → log.Shown m answer refusal → MayRefuse f p refusal
 
 module _ (log_causes : LogCauses) (one : OneContents) (opens : OpensLaw) (laws : RowLaws) where
-  file_cause : (f : Files) (p : Past) (l : Log) (text : List ℕ) (file : ChangesFile) (rest : List ChangesFile) (bytes : List ℕ) (refusal : Refusal) → Stands f p
-      → HasTaken p l text (file ∷ rest) → Some bytes ≡ paths.get f file.path → RefusesFile l.schema file bytes refusal → MayRefuse f p refusal
-  file_cause f p l text file rest bytes refusal stands taken told bad =
+  file_cause : (f : Files) (p : Past) (l : Log) (rows : List Stamped) (file : ChangesFile) (rest : List ChangesFile) (bytes : List ℕ) (refusal : Refusal) → Stands f p
+      → HasTaken p l rows (file ∷ rest) → Some bytes ≡ paths.get f file.path → RefusesFile l.schema file bytes refusal → MayRefuse f p refusal
+  file_cause f p l rows file rest bytes refusal stands taken told bad =
       let g = p.stood l.snapshot.id in
-      let found = next_stood one f p l text file rest stands taken bytes told in
-      let n = next one f p l text file rest stands taken in
+      let found = next_stood one f p l rows file rest stands taken bytes told in
+      let n = next one f p l rows file rest stands taken in
       let memory : refusal ≡ refusals.Memory =
-      refused_not opens laws g l.schema n.entry bytes refusal (next_file one f p l text file rest stands taken)
+      refused_not opens laws g l.schema n.entry bytes refusal (next_file one f p l rows file rest stands taken)
       (subst (λ (file : ChangesFile). paths.get g file.path ≡ Some bytes) n.is found)
       (subst (λ (file : ChangesFile). RefusesFile l.schema file bytes refusal) n.is bad) in
       subst (MayRefuse f p) (sym memory) tt
@@ -89,7 +89,7 @@ module _ (log_causes : LogCauses) (one : OneContents) (opens : OpensLaw) (laws :
   causes (phases.Files r) call (answers.Found (Some bytes)) refusal f p stands known at told (inl is) = subst (MayRefuse f p) (sym is) tt
   causes (phases.Files r) call (answers.Found (Some bytes)) refusal f p stands (l, same, id, taken) at told (inr bad) =
       at_call (next_call (phases.Files r)) call (λ call. Answers call (answers.Found (Some bytes)) f → MayRefuse f p refusal) at
-      (λ told. file_cause f p l r.text r.next r.rest bytes refusal stands taken told (subst (λ (s : TableSchema). RefusesFile s r.next bytes refusal) same bad)) told
+      (λ told. file_cause f p l r.rows r.next r.rest bytes refusal stands taken told (subst (λ (s : TableSchema). RefusesFile s r.next bytes refusal) same bad)) told
   causes (phases.Again id path) call (answers.Found None) refusal f p stands (s, gone) at told is =
       at_call (next_call (phases.Again id path)) call (λ call. Answers call (answers.Found None) f → MayRefuse f p refusal) at
       (λ told. expired f p s id refusal gone.table gone.known.to (gone_snapshot f s id gone.known.after_origin told) is) told

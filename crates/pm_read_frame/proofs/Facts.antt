@@ -1,6 +1,7 @@
 -- A reader of a frame keeps the laws of machines.
 use Rattle.std.proofs.Common.{◌≡◌, ◌⊎◌, inl, inr, ℕ, suc, ◌<◌, ◌+◌, List, [], ◌∷◌, ◌++◌, length, None, Some, IsSome, IfSome, refl, sym, ap, ◌∙◌, subst, arith, append_assoc, append-nil}
 use Rattle.std.proofs.lemmas.Option.{IfSome_then}
+use Rattle.pm_values.specs.declared.record.Stamped.{Stamped}
 use Rattle.pm_values.specs.declared.refusal.Refusal.{Refusal}
 use Rattle.pm_values.specs.declared.refusal.Refusal.TheVariants as refusals
 use Rattle.pm_store.specs.declared.answer.Answer.{Answer}
@@ -17,7 +18,6 @@ use Rattle.pm_machine.proofs.PhaseFacts.{Spares, ended, image_spared, recounts_o
 use Rattle.pm_schema.specs.declared.schema.TableSchema.{TableSchema}
 use Rattle.pm_snapshot.specs.declared.snapshot.Snapshot.{Snapshot}
 use Rattle.pm_snapshot.proofs.Facts.{id_same}
-use Rattle.pm_model_following.specs.Following.{frame_head}
 use Rattle.pm_model_folder.specs.Changes.{Actor}
 use Rattle.pm_model_folder.specs.Ledger.{Advances, Past, Stands}
 use Rattle.pm_model_folder.specs.Paths.{snapshot_path}
@@ -37,6 +37,7 @@ use Rattle.pm_read_log.specs.declared.log.Log.{Log}
 use Rattle.pm_read_log.specs.declared.log_phase.LogPhase.{LogPhase}
 use Rattle.pm_read_log.specs.declared.log_phase.LogPhase.TheVariants as logs
 use Rattle.pm_read_log.proofs.LogFacts as log_facts
+use Rattle.pm_merged_log.specs.Merged.{merged_frame}
 use Rattle.pm_read_frame.specs.Meaning.{HasTaken, IsFrame, Knows}
 use Rattle.pm_read_frame.specs.Reader.{next_call, calls_left, AfterLog, Goes, IsReader, IsReady, ReadsOn, Shown}
 use Rattle.pm_read_frame.specs.Taken.{RefusesFile, Takes, files_of}
@@ -60,16 +61,18 @@ spares phases.Over f = tt
 
 -- ---- what it knows
 
--- once all files were read, the text is the frame
+-- once all files were read, their rows make the frame
 abbrev pub TakenLaw : Type 0
-TakenLaw = (f : Files) (p : Past) (l : Log) (text : List ℕ) → Stands f p → HasTaken p l text [] → IsFrame p l.snapshot.id text
+TakenLaw = (f : Files) (p : Past) (l : Log) (rows : List Stamped) → Stands f p → HasTaken p l rows []
+    → IsFrame p l.snapshot.id (merged_frame l.schema l.snapshot.id rows)
 
-on_known : TakenLaw → (f : Files) (p : Past) (l : Log) (s : TableSchema) (id : ℕ) (text : List ℕ) (left : List ChangesFile) (new : Phase) → Stands f p
-    → s ≡ l.schema → id ≡ l.snapshot.id → HasTaken p l text left → ReadsOn s id text left new → Knows new f p
-on_known law f p l s id text [] new stands same is taken (whole, are, at) =
+on_known : TakenLaw → (f : Files) (p : Past) (l : Log) (s : TableSchema) (id : ℕ) (rows : List Stamped) (left : List ChangesFile) (new : Phase) → Stands f p
+    → s ≡ l.schema → id ≡ l.snapshot.id → HasTaken p l rows left → ReadsOn s id rows left new → Knows new f p
+on_known law f p l s id rows [] new stands same is taken (whole, are, at) =
+    let text : merged_frame l.schema l.snapshot.id rows ≡ whole.items = sym (are ∙ (λ i. merged_frame (same i) (is i) rows)) in
     subst (λ (m : Phase). Knows m f p) (sym at)
-    (subst (λ (id : ℕ). IsFrame p id whole.items) (sym is) (subst (IsFrame p l.snapshot.id) (sym are) (law f p l text stands taken)))
-on_known law f p l s id text (file ∷ files) new stands same is taken at = subst (λ (m : Phase). Knows m f p) (sym at) (l, same, is, taken)
+    (subst (λ (id : ℕ). IsFrame p id whole.items) (sym is) (subst (IsFrame p l.snapshot.id) text (law f p l rows stands taken)))
+on_known law f p l s id rows (file ∷ files) new stands same is taken at = subst (λ (m : Phase). Knows m f p) (sym at) (l, same, is, taken)
 
 held_known : (to : LogPhase) (new : Phase) (f : Files) (p : Past) → new ≡ phases.Log to → log_meaning.Knows to f p → Knows new f p
 held_known to new f p is known = subst (λ (m : Phase). Knows m f p) (sym is) known
@@ -80,7 +83,7 @@ after_known law (logs.List a x list) new f p stands is known = held_known (logs.
 after_known law (logs.Manifests r) new f p stands is known = held_known (logs.Manifests r) new f p is known
 after_known law (logs.Again a path) new f p stands is known = held_known (logs.Again a path) new f p is known
 after_known law (logs.Ready l) new f p stands (within, on) known =
-    on_known law f p l l.schema l.snapshot.id (frame_head l.snapshot.id) (files_of l.schema l.changes.items) new stands refl refl (first_taken p l known) on
+    on_known law f p l l.schema l.snapshot.id [] (files_of l.schema l.changes.items) new stands refl refl (first_taken p l known) on
 after_known law logs.Over new f p stands is known = held_known logs.Over new f p is known
 
 -- what an answer leads to is known of the same files
@@ -91,10 +94,10 @@ knows_next one lists law (phases.Log r) answer new f p (to, on, after) stands kn
     (λ call next told. after_known law to new f p stands after (next told))
 knows_next one lists law (phases.Files r) (answers.Found None) new f p is stands (l, same, id, taken) = λ told.
     subst (λ (m : Phase). Knows m f p) (sym is)
-    (l.schema, subst (HasGone f p l.schema) (sym id) (next_gone one f p l r.text r.next r.rest stands taken told))
-knows_next one lists law (phases.Files r) (answers.Found (Some bytes)) new f p (text, takes, on) stands (l, same, id, taken) = λ told.
-    let took : Takes l.schema r.next bytes r.text text = subst (λ (s : TableSchema). Takes s r.next bytes r.text text) same takes in
-    on_known law f p l r.schema r.id text r.rest new stands same id (next_taken one f p l r.text r.next r.rest stands taken bytes text told took) on
+    (l.schema, subst (HasGone f p l.schema) (sym id) (next_gone one f p l r.rows r.next r.rest stands taken told))
+knows_next one lists law (phases.Files r) (answers.Found (Some bytes)) new f p (rows, takes, on) stands (l, same, id, taken) = λ told.
+    let took : Takes l.schema r.next bytes r.rows rows = subst (λ (s : TableSchema). Takes s r.next bytes r.rows rows) same takes in
+    on_known law f p l r.schema r.id rows r.rest new stands same id (next_taken one f p l r.rows r.next r.rest stands taken bytes rows told took) on
 knows_next one lists law m answer new f p goes stands known = absurd goes
 
 pub sound : OneContents → OneList → TakenLaw → Sound next_call Goes (Refuses Shown phases.Over) (Stops phases.Over) Stands (λ m. IsKept) Knows
@@ -102,29 +105,29 @@ sound one lists law = sound_of_spared next_call Goes Shown phases.Over Stands Kn
 
 -- ---- its calls
 
-read_push : (s : TableSchema) (files : List ChangesFile) (file : ChangesFile) (old middle new bytes : List ℕ) (events : List Event) → HaveRead s files old middle events
+read_push : (s : TableSchema) (files : List ChangesFile) (file : ChangesFile) (old middle new : List Stamped) (bytes : List ℕ) (events : List Event) → HaveRead s files old middle events
     → Takes s file bytes middle new → HaveRead s (files ++ file ∷ []) old new (events ++ read_file file.path (Some bytes) ∷ [])
 read_push s [] file old middle new bytes events (same, quiet) takes =
     let event : Event = read_file file.path (Some bytes) in
-    (bytes, new, [], subst (λ (text : List ℕ). Takes s file bytes text new) same takes, ap (λ (own : List Event). own ++ event ∷ []) quiet, (refl, refl))
+    (bytes, new, [], subst (λ (rows : List Stamped). Takes s file bytes rows new) same takes, ap (λ (own : List Event). own ++ event ∷ []) quiet, (refl, refl))
 read_push s (first ∷ files) file old middle new bytes events (own, here, rest, took, comes, more) takes =
     let event : Event = read_file file.path (Some bytes) in
     (own, here, rest ++ event ∷ [], took, ap (λ (own : List Event). own ++ event ∷ []) comes, read_push s files file here middle new bytes rest more takes)
 
-part_more : (a : LogAskedView) (l : Log) (text new : List ℕ) (file : ChangesFile) (rest : List ChangesFile) (bytes : List ℕ) (own : List Event)
-    → HasPart a l text (file ∷ rest) own → Takes l.schema file bytes text new → HasPart a l new rest (own ++ read_file file.path (Some bytes) ∷ [])
-part_more a l text new file rest bytes own part takes =
+part_more : (a : LogAskedView) (l : Log) (rows new : List Stamped) (file : ChangesFile) (rest : List ChangesFile) (bytes : List ℕ) (own : List Event)
+    → HasPart a l rows (file ∷ rest) own → Takes l.schema file bytes rows new → HasPart a l new rest (own ++ read_file file.path (Some bytes) ∷ [])
+part_more a l rows new file rest bytes own part takes =
     let event : Event = read_file file.path (Some bytes) in record {
       first = part.first;
       logged = part.logged;
       done = part.done ++ file ∷ [];
       parts = part.parts ∙ sym (append_assoc part.done (file ∷ []) rest);
       reads = part.reads ++ event ∷ [];
-      read = read_push l.schema part.done file (frame_head l.snapshot.id) text new bytes part.reads part.read takes;
+      read = read_push l.schema part.done file [] rows new bytes part.reads part.read takes;
       is = ap (λ (own : List Event). own ++ event ∷ []) part.is ∙ append_assoc part.first part.reads (event ∷ []);
     }
 
-part_first : (a : LogAskedView) (l : Log) (own : List Event) → HasLog a l own → HasPart a l (frame_head l.snapshot.id) (files_of l.schema l.changes.items) own
+part_first : (a : LogAskedView) (l : Log) (own : List Event) → HasLog a l own → HasPart a l [] (files_of l.schema l.changes.items) own
 part_first a l own logged =
     record { first = own; logged = logged; done = []; parts = refl; reads = []; read = (refl, refl); is = sym (append-nil own) }
 
@@ -135,11 +138,11 @@ log_id a l own (of_list x metas changes part is) =
     let (earlier, ((bytes, reads, schema, at), named), then) = part.found in
     ap (λ (x : Snapshot). x.id) is.snapshot ∙ id_same a.id bytes x reads
 
-did_on : (a : LogAskedView) (l : Log) (s : TableSchema) (id : ℕ) (text : List ℕ) (left : List ChangesFile) (new : Phase) (own : List Event) → s ≡ l.schema
-    → id ≡ a.id → HasPart a l text left own → ReadsOn s id text left new → Did a new own
-did_on a l s id text [] new own same is part (whole, are, at) =
-    subst (λ (m : Phase). Did a m own) (sym at) (is, (l, subst (λ (text : List ℕ). HasPart a l text [] own) (sym are) part))
-did_on a l s id text (file ∷ files) new own same is part at = subst (λ (m : Phase). Did a m own) (sym at) (l, same, is, part)
+did_on : (a : LogAskedView) (l : Log) (s : TableSchema) (id : ℕ) (rows : List Stamped) (left : List ChangesFile) (new : Phase) (own : List Event) → s ≡ l.schema
+    → id ≡ a.id → HasPart a l rows left own → ReadsOn s id rows left new → Did a new own
+did_on a l s id rows [] new own same is part (whole, are, at) =
+    subst (λ (m : Phase). Did a m own) (sym at) (is, (l, rows, part, are ∙ (λ i. merged_frame (same i) (is i) rows)))
+did_on a l s id rows (file ∷ files) new own same is part at = subst (λ (m : Phase). Did a m own) (sym at) (l, same, is, part)
 
 held_did : (a : LogAskedView) (to : LogPhase) (new : Phase) (own : List Event) → new ≡ phases.Log to → log_trace.Did a to own → Did a new own
 held_did a to new own is did = subst (λ (m : Phase). Did a m own) (sym is) did
@@ -150,7 +153,7 @@ did_after a (logs.List b x list) new own is did = held_did a (logs.List b x list
 did_after a (logs.Manifests r) new own is did = held_did a (logs.Manifests r) new own is did
 did_after a (logs.Again b path) new own is did = held_did a (logs.Again b path) new own is did
 did_after a (logs.Ready l) new own (within, on) did =
-    did_on a l l.schema l.snapshot.id (frame_head l.snapshot.id) (files_of l.schema l.changes.items) new own refl (log_id a l own did) (part_first a l own did) on
+    did_on a l l.schema l.snapshot.id [] (files_of l.schema l.changes.items) new own refl (log_id a l own did) (part_first a l own did) on
 did_after a logs.Over new own is did = held_did a logs.Over new own is did
 
 went_on : (a : LogAskedView) (m : Phase) (answer : Answer) (new : Phase) (own : List Event) → Goes m answer new → Did a m own
@@ -160,10 +163,10 @@ went_on a (phases.Log r) answer new own (to, on, after) did =
     (λ call did may. did_after a to new (own ++ answered call answer ∷ []) after (did may))
 went_on a (phases.Files r) (answers.Found None) new own is (l, same, id, part) = λ may.
     subst (λ (m : Phase). Did a m (own ++ read_file r.next.path None ∷ [])) (sym is)
-    (id, record { log = l; text = r.text; file = r.next; rest = r.rest; is_path = refl; absent = (own, part, refl) })
-went_on a (phases.Files r) (answers.Found (Some bytes)) new own (text, takes, on) (l, same, id, part) = λ may.
-    let took : Takes l.schema r.next bytes r.text text = subst (λ (s : TableSchema). Takes s r.next bytes r.text text) same takes in
-    did_on a l r.schema r.id text r.rest new (own ++ read_file r.next.path (Some bytes) ∷ []) same id (part_more a l r.text text r.next r.rest bytes own part took) on
+    (id, record { log = l; rows = r.rows; file = r.next; rest = r.rest; is_path = refl; absent = (own, part, refl) })
+went_on a (phases.Files r) (answers.Found (Some bytes)) new own (rows, takes, on) (l, same, id, part) = λ may.
+    let took : Takes l.schema r.next bytes r.rows rows = subst (λ (s : TableSchema). Takes s r.next bytes r.rows rows) same takes in
+    did_on a l r.schema r.id rows r.rest new (own ++ read_file r.next.path (Some bytes) ∷ []) same id (part_more a l r.rows rows r.next r.rest bytes own part took) on
 went_on a m answer new own goes did = absurd goes
 
 shows_as : (a : LogAskedView) (refusal defined : Refusal) (own : List Event) → refusal ≡ defined → ShowsOfFiles a defined own → Shows a refusal own
@@ -190,7 +193,7 @@ refused_on a (phases.Files r) (answers.Found (Some bytes)) refusal own (inl is) 
 refused_on a (phases.Files r) (answers.Found (Some bytes)) refusal own (inr bad) (l, same, id, part) = λ may.
     misread_as a refusal _ (refuses_fault r.schema r.next bytes refusal bad)
     (after_answer (phases.Files r) (calls.Read r.next.path) (answers.Found (Some bytes)) own (l, same, id, part) refl may tt refl)
-    (l, r.text, r.next, r.rest, bytes, subst (λ (s : TableSchema). RefusesFile s r.next bytes refusal) same bad, (own, part, refl))
+    (l, r.rows, r.next, r.rest, bytes, subst (λ (s : TableSchema). RefusesFile s r.next bytes refusal) same bad, (own, part, refl))
 refused_on a (phases.Again id path) (answers.Found None) refusal own is (same, lacks) = λ may.
     shows_as a refusal (refusals.Expired id) _ is (same, path, (own, lacks, ap (λ (n : ℕ). own ++ read_file (snapshot_path n) None ∷ []) same))
 refused_on a (phases.Again id path) (answers.Found (Some bytes)) refusal own is (same, lacks) = λ may.
@@ -215,12 +218,12 @@ recounts a = recounts_of next_call Goes Shown phases.Over (DidSoFar a) (Did a) M
 abbrev IsAhead : ℕ → Phase → Type 0
 IsAhead n m = (calls_left m < n) × (IsReady m ⊎ (0 < calls_left m))
 
-on_ahead : (n : ℕ) (s : TableSchema) (id : ℕ) (text : List ℕ) (left : List ChangesFile) (new : Phase) → length left + 1 < n → ReadsOn s id text left new → IsAhead n new
-on_ahead n s id text [] new below (whole, are, at) =
+on_ahead : (n : ℕ) (s : TableSchema) (id : ℕ) (rows : List Stamped) (left : List ChangesFile) (new : Phase) → length left + 1 < n → ReadsOn s id rows left new → IsAhead n new
+on_ahead n s id rows [] new below (whole, are, at) =
     let one : 0 + 1 < n = below in
     let less : 0 < n = omega (arith, one) in
     subst (IsAhead n) (sym at) (less, inl tt)
-on_ahead n s id text (file ∷ files) new below at =
+on_ahead n s id rows (file ∷ files) new below at =
     let one : suc (length files) + 1 < n = below in
     let less : length files + 2 < n = omega (arith, one) in
     let some : 0 < length files + 2 = omega arith in
@@ -238,7 +241,7 @@ after_ahead n (logs.List b x list) new fewer is = log_ahead n (logs.List b x lis
 after_ahead n (logs.Manifests r) new fewer is = log_ahead n (logs.Manifests r) new fewer is
 after_ahead n (logs.Again b path) new fewer is = log_ahead n (logs.Again b path) new fewer is
 after_ahead n (logs.Ready l) new fewer (within, on) =
-    on_ahead (n + (most + 2)) l.schema l.snapshot.id (frame_head l.snapshot.id) (files_of l.schema l.changes.items) new
+    on_ahead (n + (most + 2)) l.schema l.snapshot.id [] (files_of l.schema l.changes.items) new
     (let few : 0 < n = fewer in omega (arith, within, few)) on
 after_ahead n logs.Over new fewer is = log_ahead n logs.Over new fewer is
 
@@ -248,8 +251,8 @@ goes_ahead (phases.Files r) (answers.Found None) new is =
     let less : 1 < length r.rest + 2 = omega arith in
     let some : 0 < 1 = omega arith in
     subst (IsAhead (length r.rest + 2)) (sym is) (less, inr some)
-goes_ahead (phases.Files r) (answers.Found (Some bytes)) new (text, takes, on) =
-    on_ahead (length r.rest + 2) r.schema r.id text r.rest new (omega arith) on
+goes_ahead (phases.Files r) (answers.Found (Some bytes)) new (rows, takes, on) =
+    on_ahead (length r.rest + 2) r.schema r.id rows r.rest new (omega arith) on
 goes_ahead m answer new goes = absurd goes
 
 -- an answer that it goes on with leaves fewer calls
@@ -270,7 +273,7 @@ has_call phases.Over is left = absurd (let none : 0 < 0 = left in omega (arith, 
 pub knows_still : ChangeKept → (m : Phase) (other : Actor) (f after : Files) (p q : Past) → Stands f p → Advances other f p after q → Knows m f p → Knows m after q
 knows_still stays (phases.Log r) other f after p q stands advances known = log_facts.knows_still r other f after p q stands advances known
 knows_still stays (phases.Files r) other f after p q stands advances (l, same, id, taken) =
-    (l, same, id, taken_kept other f after p q l r.text (r.next ∷ r.rest) stands advances taken)
+    (l, same, id, taken_kept other f after p q l r.rows (r.next ∷ r.rest) stands advances taken)
 knows_still stays (phases.Again id path) other f after p q stands advances (s, gone) = (s, gone_still other f after p q s id stands advances gone)
 knows_still stays (phases.Ready id text) other f after p q stands advances frame = frame_kept stays other f after p q id text.items stands advances frame
 knows_still stays phases.Over other f after p q stands advances known = tt

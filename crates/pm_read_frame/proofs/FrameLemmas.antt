@@ -11,7 +11,7 @@ use Rattle.pm_model_following.specs.Following.{frame, frame_head}
 use Rattle.pm_model_folder.specs.Folder.{Folder, HasTable}
 use Rattle.pm_model_folder.specs.Ledger.{Past, Stands, count_of}
 use Rattle.pm_read_frame.specs.Frames.{AreFramesFrom, IsFrameOf, joined}
-use Rattle.pm_read_frame.specs.Meaning.{HasOneLog, IsFrame}
+use Rattle.pm_read_frame.specs.Meaning.{HasProducer, IsFrame}
 use Rattle.pm_read_frame.proofs.ChangeLemmas.{ChangeKept}
 
 -- ---- histories that go on
@@ -81,14 +81,14 @@ module _ (s : TableSchema) (es : List Entry) where
       let rest = are_within (id + 1) texts are in
       omega (arith, low, rest)
 
-  module _ (kept : ChangeKept) (one : HasOneLog s) where
+  module _ (kept : ChangeKept) (one : HasProducer s) where
     frame_is : (id : ℕ) (text : List ℕ) → IsFrameOf (table s es) id text → text ≡ frame s es id
     frame_is id text is =
         let (same, more, whole) = of_table id text is in
         let t = is.frame.schema in
         let own = is.frame.entries in
         let folder : HasTable is.files t own = subst (Folder is.files) is.frame.is_table is.stood.folder in
-        is.frame.is_text (subst HasOneLog same one)
+        is.frame.is_text (subst HasProducer same one)
         ∙ ap (λ (rows : List HistoryRow). frame_head id ++ flat_map (λ (r : HistoryRow). line (row_text r.0 r.1)) rows)
         (sym (kept t own more id folder.history.bases (known_to id text is)))
         ∙ sym (λ i. frame (same i) (whole i) id)
@@ -100,6 +100,6 @@ module _ (s : TableSchema) (es : List Entry) where
         ap (λ (text : List ℕ). text ++ joined texts) (frame_is id text is)
         ∙ ap (λ (rest : List ℕ). frame s es id ++ rest) (frames_are_of (id + 1) texts are)
 
-pub frames_are : ChangeKept → (s : TableSchema) (es : List Entry) (id : ℕ) (texts : List (List ℕ)) → HasOneLog s → AreFramesFrom (table s es) id texts
+pub frames_are : ChangeKept → (s : TableSchema) (es : List Entry) (id : ℕ) (texts : List (List ℕ)) → HasProducer s → AreFramesFrom (table s es) id texts
     → joined texts ≡ flat_map (frame s es) (range_with_len id (length texts))
 frames_are kept s es id texts one = frames_are_of s es kept one id texts

@@ -1,7 +1,8 @@
 -- What a reader of a frame knows stays true, whatever others do.
-use Rattle.std.proofs.Common.{◌≡◌, ℕ, ◌≤◌, List, ◌++◌, length, refl, sym, ap, subst, ◌∙◌}
+use Rattle.std.proofs.Common.{◌≡◌, ℕ, ◌≤◌, List, [], ◌++◌, length, refl, sym, ap, subst, ◌∙◌}
 use Rattle.std.specs.List.{flat_map}
 use Rattle.pm_base.specs.Newline.{line}
+use Rattle.pm_values.specs.declared.record.Stamped.{Stamped}
 use Rattle.pm_store.specs.Files.{Files}
 use Rattle.pm_rows.specs.RowText.{row_text}
 use Rattle.pm_model_history.specs.History.{GoesOn, History, no_table, table}
@@ -20,13 +21,13 @@ use Rattle.pm_read_frame.specs.Taken.{HaveTaken}
 use Rattle.pm_read_frame.specs.declared.file.ChangesFile.{ChangesFile}
 use Rattle.pm_read_frame.proofs.ChangeLemmas.{ChangeKept}
 
-pub taken_kept : (other : Actor) (f after : Files) (p q : Past) (l : Log) (text : List ℕ) (left : List ChangesFile) → Stands f p → Advances other f p after q
-    → HasTaken p l text left → HasTaken q l text left
-taken_kept other f after p q l text left stands advances taken = record {
+pub taken_kept : (other : Actor) (f after : Files) (p q : Past) (l : Log) (rows : List Stamped) (left : List ChangesFile) → Stands f p → Advances other f p after q
+    → HasTaken p l rows left → HasTaken q l rows left
+taken_kept other f after p q l rows left stands advances taken = record {
   is_log = log_facts.knows_still (logs.Ready l) other f after p q stands advances taken.is_log;
   done = taken.done;
   parts = taken.parts;
-  taken = subst (λ (g : Files). HaveTaken g l.schema taken.done (frame_head l.snapshot.id) text) (sym (advances.same l.snapshot.id taken.is_log.0.known)) taken.taken;
+  taken = subst (λ (g : Files). HaveTaken g l.schema taken.done [] rows) (sym (advances.same l.snapshot.id taken.is_log.0.known)) taken.taken;
 }
 
 pub frame_kept : ChangeKept → (other : Actor) (f after : Files) (p q : Past) (id : ℕ) (text : List ℕ) → Stands f p → Advances other f p after q → IsFrame p id text

@@ -8,6 +8,5 @@ pub mod Facts
 mod FaultLemmas
 mod FrameLemmas
 mod KeptLemmas
-mod LineLemmas
 pub mod OneLemmas
 mod StoodLemmas

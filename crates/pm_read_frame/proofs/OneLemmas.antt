@@ -27,7 +27,6 @@ use Rattle.pm_manifest.specs.Shape.{shape_of}
 use Rattle.pm_manifest.specs.declared.entry.Entry.{Entry}
 use Rattle.pm_manifest.specs.declared.entry.ManifestMeta.{ManifestMeta}
 use Rattle.pm_model_contents.specs.Lists.{IsChangelogEntry, manifest_path}
-use Rattle.pm_model_following.specs.Following.{frame_head}
 use Rattle.pm_model_folder.specs.Paths.{schema_path, snapshot_path}
 use Rattle.pm_read_schema.proofs.LeadLemmas.{AreOne, Fails, IsAnswered, Leads, all_answered, failed, failed_not, lead_join, lead_step, led, one_failed, one_lead}
 use Rattle.pm_read_table.specs.Trace.{HaveRead as ManifestsRead, read_file}
@@ -39,11 +38,11 @@ use Rattle.pm_read_log.specs.LogTrace as log
 use Rattle.pm_read_log.specs.LogTrace.{HasLog, bad_schema, bad_snapshot, gone_again, gone_first, has_other, is_absent, is_misread, lacks_list, lacks_manifest, misreads_list, misreads_manifest, of_list, without}
 use Rattle.pm_read_log.specs.declared.log.Log.{Log}
 use Rattle.pm_read_frame.specs.AllCalls.{DidFrame, Ends}
+use Rattle.pm_merged_log.specs.Merged.{merged_frame}
 use Rattle.pm_read_frame.specs.Reader.{next_call}
-use Rattle.pm_read_frame.specs.Taken.{RefusesFile, Takes, files_of, lines_of, misread, unopened}
+use Rattle.pm_read_frame.specs.Taken.{RefusesFile, Takes, files_of, misread, unopened}
 use Rattle.pm_read_frame.specs.Trace.{DidSoFar, FindsNext, HasPart, HaveRead, LacksFile, Misreads, ReadsAgain, ShowsOfFiles}
 use Rattle.pm_read_frame.specs.declared.file.ChangesFile.{ChangesFile}
-use Rattle.pm_read_frame.proofs.Facts.{log_id}
 
 -- ---- the laws of the crates below
 
@@ -56,24 +55,24 @@ pub record OneLaws : Type 0 where
 -- ---- where calls lead
 
 -- the snapshot is to be read; or its changelog list; or the next of these manifests, after these entries; or the snapshot
--- again, as the file at the path was absent; or the next of these files, after this text; or the reader was refused
+-- again, as the file at the path was absent; or the next of these files, after these rows; or the reader was refused
 pub data Place : Type 0 where
   opening : Place
   listing : List ℕ → Place
   manifests : List ManifestMeta → List Entry → Place
   again : List ℕ → Place
-  files : List ChangesFile → List ℕ → Place
+  files : List ChangesFile → List Stamped → Place
   over : Refusal → Place
 
 -- what a file's bytes lead to
-pub data FileRead (s : TableSchema) (file : ChangesFile) (rest : List ChangesFile) (text bytes : List ℕ) (new : Place) : Type 0 where
-  is_taken : (next : List ℕ) → Takes s file bytes text next → new ≡ files rest next → FileRead s file rest text bytes new
-  is_refused : (e : Refusal) → e ≢ refusals.Memory → RefusesFile s file bytes e → new ≡ over e → FileRead s file rest text bytes new
+pub data FileRead (s : TableSchema) (file : ChangesFile) (rest : List ChangesFile) (before : List Stamped) (bytes : List ℕ) (new : Place) : Type 0 where
+  is_taken : (next : List Stamped) → Takes s file bytes before next → new ≡ files rest next → FileRead s file rest before bytes new
+  is_refused : (e : Refusal) → e ≢ refusals.Memory → RefusesFile s file bytes e → new ≡ over e → FileRead s file rest before bytes new
 
 module _ (a : LogAskedView) where
   -- with these manifests left, after these entries
   abbrev pub reads_on : List ManifestMeta → List Entry → Place
-  reads_on [] es = files (files_of a.schema es) (frame_head a.id)
+  reads_on [] es = files (files_of a.schema es) []
   reads_on (meta ∷ metas) es = manifests (meta ∷ metas) es
 
   abbrev pub opens : Option (List ℕ) → Place
@@ -118,8 +117,8 @@ module _ (a : LogAskedView) where
   After (manifests (meta ∷ rest) es) (answers.Found (Some bytes)) new = ManifestRead meta rest es bytes new
   After (again path) (answers.Found None) new = new ≡ over (refusals.Expired a.id)
   After (again path) (answers.Found (Some bytes)) new = new ≡ over (refusals.Damaged path 0)
-  After (files (file ∷ rest) text) (answers.Found None) new = new ≡ again file.path
-  After (files (file ∷ rest) text) (answers.Found (Some bytes)) new = FileRead a.schema file rest text bytes new
+  After (files (file ∷ rest) rows) (answers.Found None) new = new ≡ again file.path
+  After (files (file ∷ rest) rows) (answers.Found (Some bytes)) new = FileRead a.schema file rest rows bytes new
   After m answer new = ⊥
 
   abbrev pub Given : Place → Option Answer → Place → Type 0
@@ -132,7 +131,7 @@ module _ (a : LogAskedView) where
   CallAt (listing list) call = call ≡ calls.Read (manifest_path list)
   CallAt (manifests (meta ∷ rest) es) call = call ≡ calls.Read (manifest_path meta.name)
   CallAt (again path) call = call ≡ calls.Read (snapshot_path a.id)
-  CallAt (files (file ∷ rest) text) call = call ≡ calls.Read file.path
+  CallAt (files (file ∷ rest) rows) call = call ≡ calls.Read file.path
   CallAt m call = ⊥
 
   abbrev pub Goes : Place → Event → Place → Type 0
@@ -155,9 +154,9 @@ module _ (laws : OneLaws) where
   one_follow s file bytes v w rows others end other opens opened follow followed =
       one_opened laws.opening laws.rows s true file.schema_id file.path bytes None v w rows others end other opens opened follow followed
 
-  one_taken : (s : TableSchema) (file : ChangesFile) (bytes text one other : List ℕ) → Takes s file bytes text one → Takes s file bytes text other → one ≡ other
-  one_taken s file bytes text one other (rows, (v, opens, follow), is) (others, (w, opened, followed), was) =
-      is ∙ ap (λ (rows : List Stamped). text ++ lines_of rows) (one_follow s file bytes v w rows others None None opens opened follow followed).0 ∙ sym was
+  one_taken : (s : TableSchema) (file : ChangesFile) (bytes : List ℕ) (before one other : List Stamped) → Takes s file bytes before one → Takes s file bytes before other → one ≡ other
+  one_taken s file bytes before one other (rows, (v, opens, follow), is) (others, (w, opened, followed), was) =
+      is ∙ ap (λ (rows : List Stamped). before ++ rows) (one_follow s file bytes v w rows others None None opens opened follow followed).0 ∙ sym was
 
   end_not : (e : Refusal) → ◌≡◌ {A = Option Refusal} None (Some e) → ⊥
   end_not e is = cc
@@ -165,10 +164,10 @@ module _ (laws : OneLaws) where
   one_end_refusal : (e d : Refusal) → ◌≡◌ {A = Option Refusal} (Some e) (Some d) → e ≡ d
   one_end_refusal e d is = cc
 
-  taken_not : (s : TableSchema) (file : ChangesFile) (bytes text new : List ℕ) (e : Refusal) → e ≢ refusals.Memory → Takes s file bytes text new → RefusesFile s file bytes e → ⊥
-  taken_not s file bytes text new e other (rows, (v, opens, follow), is) (unopened refuses) =
+  taken_not : (s : TableSchema) (file : ChangesFile) (bytes : List ℕ) (before new : List Stamped) (e : Refusal) → e ≢ refusals.Memory → Takes s file bytes before new → RefusesFile s file bytes e → ⊥
+  taken_not s file bytes before new e other (rows, (v, opens, follow), is) (unopened refuses) =
       opened_not laws.opening s true file.schema_id file.path bytes v e other opens (refused_of s file.schema_id file.path bytes e other refuses)
-  taken_not s file bytes text new e other (rows, (v, opens, follow), is) (misread w others opened followed) =
+  taken_not s file bytes before new e other (rows, (v, opens, follow), is) (misread w others opened followed) =
       end_not e (one_follow s file bytes v w rows others None (Some e) opens opened follow followed).1
 
   one_refused : (s : TableSchema) (file : ChangesFile) (bytes : List ℕ) (e d : Refusal) → e ≢ refusals.Memory → d ≢ refusals.Memory → RefusesFile s file bytes e
@@ -182,13 +181,13 @@ module _ (laws : OneLaws) where
   one_refused s file bytes e d other more (misread v rows opens follow) (misread w others opened followed) =
       one_end_refusal e d (one_follow s file bytes v w rows others (Some e) (Some d) opens opened follow followed).1
 
-  one_file : (s : TableSchema) (file : ChangesFile) (rest : List ChangesFile) (text bytes : List ℕ) (one other : Place) → FileRead s file rest text bytes one
-      → FileRead s file rest text bytes other → one ≡ other
-  one_file s file rest text bytes one other (is_taken next took is) (is_taken also taken was) =
-      is ∙ ap (λ (text : List ℕ). files rest text) (one_taken s file bytes text next also took taken) ∙ sym was
-  one_file s file rest text bytes one other (is_taken next took is) (is_refused e not_memory refused was) = absurd (taken_not s file bytes text next e not_memory took refused)
-  one_file s file rest text bytes one other (is_refused e not_memory refused is) (is_taken next took was) = absurd (taken_not s file bytes text next e not_memory took refused)
-  one_file s file rest text bytes one other (is_refused e not_memory refused is) (is_refused d nor_memory denied was) =
+  one_file : (s : TableSchema) (file : ChangesFile) (rest : List ChangesFile) (before : List Stamped) (bytes : List ℕ) (one other : Place) → FileRead s file rest before bytes one
+      → FileRead s file rest before bytes other → one ≡ other
+  one_file s file rest before bytes one other (is_taken next took is) (is_taken also taken was) =
+      is ∙ ap (λ (rows : List Stamped). files rest rows) (one_taken s file bytes before next also took taken) ∙ sym was
+  one_file s file rest before bytes one other (is_taken next took is) (is_refused e not_memory refused was) = absurd (taken_not s file bytes before next e not_memory took refused)
+  one_file s file rest before bytes one other (is_refused e not_memory refused is) (is_taken next took was) = absurd (taken_not s file bytes before next e not_memory took refused)
+  one_file s file rest before bytes one other (is_refused e not_memory refused is) (is_refused d nor_memory denied was) =
       is ∙ ap over (one_refused s file bytes e d not_memory nor_memory refused denied) ∙ sym was
 
 module _ (laws : OneLaws) (a : LogAskedView) where
@@ -226,8 +225,8 @@ module _ (laws : OneLaws) (a : LogAskedView) where
   one_after (manifests (meta ∷ rest) es) (answers.Found (Some bytes)) one other p q = one_manifest_read meta rest es bytes one other p q
   one_after (again path) (answers.Found None) one other p q = p ∙ sym q
   one_after (again path) (answers.Found (Some bytes)) one other p q = p ∙ sym q
-  one_after (files (file ∷ rest) text) (answers.Found None) one other p q = p ∙ sym q
-  one_after (files (file ∷ rest) text) (answers.Found (Some bytes)) one other p q = one_file laws a.schema file rest text bytes one other p q
+  one_after (files (file ∷ rest) rows) (answers.Found None) one other p q = p ∙ sym q
+  one_after (files (file ∷ rest) rows) (answers.Found (Some bytes)) one other p q = one_file laws a.schema file rest rows bytes one other p q
   one_after m answer one other p q = absurd p
 
   one_given : (m : Place) (answer : Option Answer) (one other : Place) → Given a m answer one → Given a m answer other → one ≡ other
@@ -314,47 +313,45 @@ module _ (a : LogAskedView) where
   log_schema l own (of_list x metas es part is) = is.schema
 
   abbrev at_files : Log → Place
-  at_files l = files (files_of a.schema l.changes.items) (frame_head l.snapshot.id)
+  at_files l = files (files_of a.schema l.changes.items) []
 
-  log_files : (l : Log) (es : List Entry) (own : List Event) → HasLog a l own → l.changes.items ≡ es → reads_on a [] es ≡ at_files l
-  log_files l es own has are =
-      ap (λ (es : List Entry). files (files_of a.schema es) (frame_head a.id)) (sym are)
-      ∙ ap (λ (id : ℕ). files (files_of a.schema l.changes.items) (frame_head id)) (sym (log_id a l own has))
+  log_files : (l : Log) (es : List Entry) → l.changes.items ≡ es → reads_on a [] es ≡ at_files l
+  log_files l es are = ap (λ (es : List Entry). files (files_of a.schema es) []) (sym are)
 
   pub log_lead : (l : Log) (own : List Event) → HasLog a l own → LeadsTo own (at_files l)
   log_lead l own (without x none has is) =
-      subst (LeadsTo own) (log_files l [] own (without x none has is) is.entries)
+      subst (LeadsTo own) (log_files l [] is.entries)
       (subst (λ (o : Option (List ℕ)). LeadsTo own (opens a o)) none (has_lead x own has))
   log_lead l own (of_list x metas es part is) =
-      subst (LeadsTo own) (log_files l es own (of_list x metas es part is) is.entries) (log_part_lead x metas [] es own part)
+      subst (LeadsTo own) (log_files l es is.entries) (log_part_lead x metas [] es own part)
 
-  files_lead : (done rest : List ChangesFile) (old new : List ℕ) (own : List Event) → HaveRead a.schema done old new own
+  files_lead : (done rest : List ChangesFile) (old new : List Stamped) (own : List Event) → HaveRead a.schema done old new own
       → Leads (Goes a) own (files (done ++ rest) old) (files rest new)
-  files_lead [] rest old new own (same, none) = led (Goes a) own [] (files rest old) (files rest new) none (ap (λ (text : List ℕ). files rest text) same)
+  files_lead [] rest old new own (same, none) = led (Goes a) own [] (files rest old) (files rest new) none (ap (λ (rows : List Stamped). files rest rows) same)
   files_lead (file ∷ done) rest old new own (bytes, middle, events, took, is, more) =
       led (Goes a) own (read_file file.path (Some bytes) ∷ events) (files (file ∷ (done ++ rest)) old) (files rest new) is
       (files (done ++ rest) middle, (refl, is_taken middle took refl), files_lead done rest middle new events more)
 
-  pub part_lead : (l : Log) (text : List ℕ) (rest : List ChangesFile) (own : List Event) → HasPart a l text rest own → LeadsTo own (files rest text)
-  part_lead l text rest own part =
+  pub part_lead : (l : Log) (rows : List Stamped) (rest : List ChangesFile) (own : List Event) → HasPart a l rows rest own → LeadsTo own (files rest rows)
+  part_lead l rows rest own part =
       let schema = log_schema l part.first part.logged in
       let parts : files_of a.schema l.changes.items ≡ part.done ++ rest =
       ap (λ (s : TableSchema). files_of s l.changes.items) (sym schema) ∙ part.parts in
-      let first : LeadsTo part.first (files (part.done ++ rest) (frame_head l.snapshot.id)) =
-      subst (λ (left : List ChangesFile). LeadsTo part.first (files left (frame_head l.snapshot.id))) parts (log_lead l part.first part.logged) in
-      let read : HaveRead a.schema part.done (frame_head l.snapshot.id) text part.reads =
-      subst (λ (s : TableSchema). HaveRead s part.done (frame_head l.snapshot.id) text part.reads) schema part.read in
-      led (Goes a) own (part.first ++ part.reads) opening (files rest text) part.is
-      (lead_join (Goes a) part.first part.reads opening (files (part.done ++ rest) (frame_head l.snapshot.id)) (files rest text) first
-      (files_lead part.done rest (frame_head l.snapshot.id) text part.reads read))
+      let first : LeadsTo part.first (files (part.done ++ rest) []) =
+      subst (λ (left : List ChangesFile). LeadsTo part.first (files left [])) parts (log_lead l part.first part.logged) in
+      let read : HaveRead a.schema part.done [] rows part.reads =
+      subst (λ (s : TableSchema). HaveRead s part.done [] rows part.reads) schema part.read in
+      led (Goes a) own (part.first ++ part.reads) opening (files rest rows) part.is
+      (lead_join (Goes a) part.first part.reads opening (files (part.done ++ rest) []) (files rest rows) first
+      (files_lead part.done rest [] rows part.reads read))
 
-  file_lead : (l : Log) (text : List ℕ) (file : ChangesFile) (rest : List ChangesFile) (found : Option (List ℕ)) (own : List Event) (new : Place)
-      → FindsNext a l text file rest found own → After a (files (file ∷ rest) text) (answers.Found found) new → LeadsTo own new
-  file_lead l text file rest found own new (earlier, part, is) goes =
-      step own earlier (files (file ∷ rest) text) new (read_file file.path found) is (part_lead l text (file ∷ rest) earlier part) (refl, goes)
+  file_lead : (l : Log) (rows : List Stamped) (file : ChangesFile) (rest : List ChangesFile) (found : Option (List ℕ)) (own : List Event) (new : Place)
+      → FindsNext a l rows file rest found own → After a (files (file ∷ rest) rows) (answers.Found found) new → LeadsTo own new
+  file_lead l rows file rest found own new (earlier, part, is) goes =
+      step own earlier (files (file ∷ rest) rows) new (read_file file.path found) is (part_lead l rows (file ∷ rest) earlier part) (refl, goes)
 
   pub absent_lead : (path : List ℕ) (own : List Event) → LacksFile a path own → LeadsTo own (again path)
-  absent_lead path own lacks = file_lead lacks.log lacks.text lacks.file lacks.rest None own (again path) lacks.absent (ap again lacks.is_path)
+  absent_lead path own lacks = file_lead lacks.log lacks.rows lacks.file lacks.rest None own (again path) lacks.absent (ap again lacks.is_path)
 
   reread_lead : (path : List ℕ) (found : Option (List ℕ)) (own : List Event) (new : Place) → ReadsAgain a path found own
       → After a (again path) (answers.Found found) new → LeadsTo own new
@@ -367,7 +364,7 @@ module _ (a : LogAskedView) where
     of_memory : made ≡ Err refusals.Memory → IsShown made own
     of_failure : (e : Refusal) → made ≡ Err e → Fails e own → IsShown made own
     of_refusal : (e : Refusal) → made ≡ Err e → LeadsTo own (over e) → IsShown made own
-    of_frame : (text : List ℕ) → made ≡ Ok text → LeadsTo own (files [] text) → IsShown made own
+    of_frame : (rows : List Stamped) → made ≡ Ok (merged_frame a.schema a.id rows) → LeadsTo own (files [] rows) → IsShown made own
 
   refused_at : (e : Refusal) (own : List Event) → LeadsTo own (over e) → IsShown (Err e) own
   refused_at e own lead = of_refusal e refl lead
@@ -436,8 +433,8 @@ module _ (a : LogAskedView) where
   log_shown other own shows = absurd shows
 
   files_misread : (e : Refusal) (own : List Event) → e ≢ refusals.Memory → Misreads a e own → IsShown (Err e) own
-  files_misread e own other (l, text, file, rest, bytes, bad, (earlier, part, is)) =
-      refused_at e own (file_lead l text file rest (Some bytes) own (over e) (earlier, part, is)
+  files_misread e own other (l, rows, file, rest, bytes, bad, (earlier, part, is)) =
+      refused_at e own (file_lead l rows file rest (Some bytes) own (over e) (earlier, part, is)
       (is_refused e other (subst (λ (s : TableSchema). RefusesFile s file bytes e) (log_schema l part.first part.logged) bad) refl))
 
   files_shown : (e : Refusal) (own : List Event) → ShowsOfFiles a e own → IsShown (Err e) own
@@ -451,7 +448,8 @@ module _ (a : LogAskedView) where
   files_shown other own shows = absurd shows
 
   pub is_shown : (made : Result (List ℕ) Refusal) (own : List Event) → Ends a made own → IsShown made own
-  is_shown (Ok text) own (l, part) = of_frame text refl (part_lead l text [] own part)
+  is_shown (Ok text) own (l, rows, part, is) =
+      of_frame rows (ap Ok (is ∙ ap (λ (s : TableSchema). merged_frame s a.id rows) (log_schema l part.first part.logged))) (part_lead l rows [] own part)
   is_shown (Err e) own (inl shows) = log_shown e own shows
   is_shown (Err e) own (inr shows) = files_shown e own shows
 
@@ -467,11 +465,11 @@ module _ (a : LogAskedView) where
   over_same : (e d : Refusal) → over e ≡ over d → e ≡ d
   over_same e d is = cc
 
-  over_not : (e : Refusal) (text : List ℕ) → over e ≡ files [] text → ⊥
-  over_not e text is = cc
+  over_not : (e : Refusal) (rows : List Stamped) → over e ≡ files [] rows → ⊥
+  over_not e rows is = cc
 
-  files_same : (text other : List ℕ) → files [] text ≡ files [] other → text ≡ other
-  files_same text other is = cc
+  files_same : (rows other : List Stamped) → files [] rows ≡ files [] other → rows ≡ other
+  files_same rows other is = cc
 
   module _ (laws : OneLaws) (own : List Event) where
     one_place : (m n : Place) → LeadsTo own m → LeadsTo own n → m ≡ n
@@ -482,21 +480,21 @@ module _ (a : LogAskedView) where
     one_shown one other is (of_memory memory) = inr (inr memory)
     one_shown one other (of_failure e is fails) (of_failure d was failed) = same_errs one other e d is was (one_failed e d own fails failed)
     one_shown one other (of_failure e is fails) (of_refusal d was lead) = absurd (failed_not e own fails (leads_answered a own (over d) lead))
-    one_shown one other (of_failure e is fails) (of_frame text was lead) = absurd (failed_not e own fails (leads_answered a own (files [] text) lead))
+    one_shown one other (of_failure e is fails) (of_frame rows was lead) = absurd (failed_not e own fails (leads_answered a own (files [] rows) lead))
     one_shown one other (of_refusal e is lead) (of_failure d was fails) = absurd (failed_not d own fails (leads_answered a own (over e) lead))
     one_shown one other (of_refusal e is lead) (of_refusal d was leads) = same_errs one other e d is was (over_same e d (one_place (over e) (over d) lead leads))
-    one_shown one other (of_refusal e is lead) (of_frame text was leads) = absurd (over_not e text (one_place (over e) (files [] text) lead leads))
-    one_shown one other (of_frame text is lead) (of_failure d was fails) = absurd (failed_not d own fails (leads_answered a own (files [] text) lead))
-    one_shown one other (of_frame text is lead) (of_refusal d was leads) = absurd (over_not d text (one_place (over d) (files [] text) leads lead))
-    one_shown one other (of_frame text is lead) (of_frame more was leads) =
-        inl (is ∙ ap Ok (files_same text more (one_place (files [] text) (files [] more) lead leads)) ∙ sym was)
+    one_shown one other (of_refusal e is lead) (of_frame rows was leads) = absurd (over_not e rows (one_place (over e) (files [] rows) lead leads))
+    one_shown one other (of_frame rows is lead) (of_failure d was fails) = absurd (failed_not d own fails (leads_answered a own (files [] rows) lead))
+    one_shown one other (of_frame rows is lead) (of_refusal d was leads) = absurd (over_not d rows (one_place (over d) (files [] rows) leads lead))
+    one_shown one other (of_frame rows is lead) (of_frame more was leads) =
+        inl (is ∙ ap (λ (rows : List Stamped). Ok (merged_frame a.schema a.id rows)) (files_same rows more (one_place (files [] rows) (files [] more) lead leads)) ∙ sym was)
 
   -- where the last call failed the answer says so
   failed_answer : (own : List Event) (made : Result (List ℕ) Refusal) (e : Refusal) → Fails e own → IsShown made own → (made ≡ Err refusals.Memory) ⊎ (made ≡ Err e)
   failed_answer own made e fails (of_memory memory) = inl memory
   failed_answer own made e fails (of_failure d was failing) = inr (was ∙ ap Err (one_failed d e own failing fails))
   failed_answer own made e fails (of_refusal d was lead) = absurd (failed_not e own fails (leads_answered a own (over d) lead))
-  failed_answer own made e fails (of_frame text was lead) = absurd (failed_not e own fails (leads_answered a own (files [] text) lead))
+  failed_answer own made e fails (of_frame rows was lead) = absurd (failed_not e own fails (leads_answered a own (files [] rows) lead))
 
 pub one_answer : OneLaws → (s : TableSchema) (id : ℕ) (own : List Event) (one other : Result (List ℕ) Refusal) → DidFrame s id one own → DidFrame s id other own
     → (one ≡ other) ⊎ ((one ≡ Err refusals.Memory) ⊎ (other ≡ Err refusals.Memory))

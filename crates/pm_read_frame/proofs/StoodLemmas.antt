@@ -8,11 +8,11 @@ use Rattle.pm_values.specs.declared.record.Stamped.{Stamped}
 use Rattle.pm_store.specs.Files.{Files}
 use Rattle.pm_schema.specs.declared.schema.TableSchema.{TableSchema}
 use Rattle.pm_model_history.specs.History.{Entry, table}
-use Rattle.pm_model_following.specs.Following.{HaveBases, frame_head}
 use Rattle.pm_snapshot.specs.declared.snapshot.Snapshot.{Snapshot}
 use Rattle.pm_manifest.specs.declared.entry.Entry as files
 use Rattle.pm_model_contents.specs.Named.{Contents, HasContents, IsNamed, changes_file}
 use Rattle.pm_model_folder.specs.Commits.{IsCommitted}
+use Rattle.pm_model_folder.specs.Folder.{HasTable}
 use Rattle.pm_model_folder.specs.Ledger.{Past, Stands}
 use Rattle.pm_model_folder.specs.Stored.{HasFile, HoldsChange}
 use Rattle.pm_model_folder.proofs.HoldLemmas.{OneContents, one-snapshot}
@@ -22,33 +22,34 @@ use Rattle.pm_read_table.proofs.Facts.{found_stood, gone_now, some_there}
 use Rattle.pm_paths.proofs.ListLemmas.{here}
 use Rattle.pm_read_log.specs.LogMeaning.{IsLogIn}
 use Rattle.pm_read_log.specs.declared.log.Log.{Log}
+use Rattle.pm_merged_log.specs.Merged.{merged_frame}
 use Rattle.pm_read_frame.specs.Meaning.{HasTaken, IsFrame}
 use Rattle.pm_read_frame.specs.Taken.{HaveTaken, Takes, file_of, files_of}
 use Rattle.pm_read_frame.specs.declared.file.ChangesFile.{ChangesFile}
-use Rattle.pm_read_frame.proofs.ChangeLemmas.{ChangeKept, RowLaws, frame_is}
+use Rattle.pm_read_frame.proofs.ChangeLemmas.{FrameLaws, frame_is}
 
 -- ---- texts of files
 
-pub taken_more : (f : Files) (s : TableSchema) (done : List ChangesFile) (file : ChangesFile) (bytes old middle new : List ℕ) → HaveTaken f s done old middle
+pub taken_more : (f : Files) (s : TableSchema) (done : List ChangesFile) (file : ChangesFile) (bytes : List ℕ) (old middle new : List Stamped) → HaveTaken f s done old middle
     → paths.get f file.path ≡ Some bytes → Takes s file bytes middle new → HaveTaken f s (done ++ file ∷ []) old new
 taken_more f s [] file bytes old middle new same there takes =
-    (bytes, new, there, subst (λ (text : List ℕ). Takes s file bytes text new) same takes, refl)
+    (bytes, new, there, subst (λ (rows : List Stamped). Takes s file bytes rows new) same takes, refl)
 taken_more f s (first ∷ done) file bytes old middle new (own, here, found, took, rest) there takes =
     (own, here, found, took, taken_more f s done file bytes here middle new rest there takes)
 
 -- ---- a commit with this changelog
 
-pub record LogCommit (g : Files) (p : Past) (l : Log) : Type 0 where
+pub record LogCommit (f g : Files) (p : Past) (l : Log) : Type 0 where
   pub entries : List Entry
   pub is_table : p.history ≡ table l.schema entries
-  pub bases : HaveBases 1 entries
+  pub folder : HasTable f l.schema entries
   pub within : l.snapshot.id ≤ length entries
   pub contents : Contents
   pub has : HasContents g l.schema l.snapshot contents
   pub changes : contents.changes ≡ l.changes.items
   pub holds : HoldsChange g l.schema (take l.snapshot.id entries) l.snapshot.id l.changes.items
 
-pub log_commit : OneContents → (f : Files) (p : Past) (l : Log) → Stands f p → IsLogIn p l → LogCommit (p.stood l.snapshot.id) p l
+pub log_commit : OneContents → (f : Files) (p : Past) (l : Log) → Stands f p → IsLogIn p l → LogCommit f (p.stood l.snapshot.id) p l
 log_commit one f p l stands (stood, logged) =
     let s = l.schema in
     let id = l.snapshot.id in
@@ -66,7 +67,7 @@ log_commit one f p l stands (stood, logged) =
     record {
       entries = own.0;
       is_table = own.1;
-      bases = own.2.history.bases;
+      folder = own.2;
       within = omega (arith, high, many);
       contents = c;
       has = has;
@@ -125,9 +126,9 @@ is_listed s es file next =
     subst (λ (es : List files.Entry). Contains es next.entry) (sym next.parts)
     (Contains-append_right next.before (next.entry ∷ next.after) next.entry (here next.entry next.after))
 
-module _ (one : OneContents) (f : Files) (p : Past) (l : Log) (text : List ℕ) (file : ChangesFile) (rest : List ChangesFile) (stands : Stands f p)
-    (taken : HasTaken p l text (file ∷ rest)) where
-  pub commit : LogCommit (p.stood l.snapshot.id) p l
+module _ (one : OneContents) (f : Files) (p : Past) (l : Log) (rows : List Stamped) (file : ChangesFile) (rest : List ChangesFile) (stands : Stands f p)
+    (taken : HasTaken p l rows (file ∷ rest)) where
+  pub commit : LogCommit f (p.stood l.snapshot.id) p l
   commit = log_commit one f p l stands taken.is_log
 
   pub next : NextOf l.schema l.changes.items file
@@ -156,21 +157,22 @@ module _ (one : OneContents) (f : Files) (p : Past) (l : Log) (text : List ℕ) 
   next_gone told = gone_now f p l.schema l.snapshot stands taken.is_log.0 commit.contents commit.has file.path next_named next_there told
 
   -- once it is read, the files that are left are to be read
-  pub next_taken : (bytes new : List ℕ) → Some bytes ≡ paths.get f file.path → Takes l.schema file bytes text new → HasTaken p l new rest
+  pub next_taken : (bytes : List ℕ) (new : List Stamped) → Some bytes ≡ paths.get f file.path → Takes l.schema file bytes rows new → HasTaken p l new rest
   next_taken bytes new told takes = record {
     is_log = taken.is_log;
     done = taken.done ++ file ∷ [];
     parts = taken.parts ∙ sym (append_assoc taken.done (file ∷ []) rest);
-    taken = taken_more (p.stood l.snapshot.id) l.schema taken.done file bytes (frame_head l.snapshot.id) text new taken.taken (next_stood bytes told) takes;
+    taken = taken_more (p.stood l.snapshot.id) l.schema taken.done file bytes [] rows new taken.taken (next_stood bytes told) takes;
   }
 
 -- none was read yet
-pub first_taken : (p : Past) (l : Log) → IsLogIn p l → HasTaken p l (frame_head l.snapshot.id) (files_of l.schema l.changes.items)
+pub first_taken : (p : Past) (l : Log) → IsLogIn p l → HasTaken p l [] (files_of l.schema l.changes.items)
 first_taken p l logged = record { is_log = logged; done = []; parts = refl; taken = refl }
 
 -- all were read
-pub all_taken : OneContents → RowLaws → ChangeKept → (f : Files) (p : Past) (l : Log) (text : List ℕ) → Stands f p → HasTaken p l text [] → IsFrame p l.snapshot.id text
-all_taken one laws kept f p l text stands taken =
+pub all_taken : OneContents → FrameLaws → (f : Files) (p : Past) (l : Log) (rows : List Stamped) → Stands f p → HasTaken p l rows []
+    → IsFrame p l.snapshot.id (merged_frame l.schema l.snapshot.id rows)
+all_taken one laws f p l rows stands taken =
     let id = l.snapshot.id in
     let commit = log_commit one f p l stands taken.is_log in
     let whole : files_of l.schema l.changes.items ≡ taken.done = taken.parts ∙ append-nil taken.done in
@@ -179,6 +181,6 @@ all_taken one laws kept f p l text stands taken =
       entries = commit.entries;
       is_table = commit.is_table;
       known = taken.is_log.0.known;
-      is_text = frame_is laws kept (p.stood id) l.schema commit.entries id l.changes.items text commit.bases commit.within commit.holds
-          (subst (λ (files : List ChangesFile). HaveTaken (p.stood id) l.schema files (frame_head id) text) (sym whole) taken.taken);
+      is_text = frame_is laws f (p.stood id) l.schema commit.entries id l.changes.items rows commit.folder commit.within commit.holds
+          (subst (λ (files : List ChangesFile). HaveTaken (p.stood id) l.schema files [] rows) (sym whole) taken.taken);
     }

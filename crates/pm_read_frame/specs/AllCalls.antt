@@ -17,7 +17,7 @@ use Rattle.pm_model_folder.specs.Folder.{HasTable}
 use Rattle.pm_model_folder.specs.Paths.{snapshot_path}
 use Rattle.pm_read_schema.specs.AllCalls.{HasFiles, Stay}
 use Rattle.pm_read_log.specs.Log.{LogAskedView, log_asked_of}
-use Rattle.pm_read_frame.specs.Meaning.{HasOneLog}
+use Rattle.pm_read_frame.specs.Meaning.{HasProducer}
 use Rattle.pm_read_frame.specs.Trace.{HasFrame, Shows}
 
 -- the text of an answer, wherever it lies in memory
@@ -48,7 +48,7 @@ pub record ReadsFrame (f : Files) (s : TableSchema) (entries : List Entry) (id :
   pub files : Stay f first after
   pub within : IfOk result (λ text. id ≤ length entries)
   pub there : IfOk result (λ text. IsSome (map.get f (snapshot_path id)))
-  pub text : IfOk result (λ text. HasOneLog s → text ≡ frame s entries id)
+  pub text : IfOk result (λ text. HasProducer s → text ≡ frame s entries id)
   pub cause : IfErr result (IsCaused f id first after)
 
 -- what it promises of histories, from the first call on, where the id may stand in a name

@@ -1,6 +1,7 @@
 -- A reader of a frame: its phases, its calls, and what each answer leads to.
 use Rattle.std.specs.Prelude.{◌≡◌, ◌⊎◌, ℕ, ◌+◌, ◌<◌, ◌≤◌, List, [], ◌∷◌, length, Option, None, Some, Vec}
 use Rattle.std.specs.Global.{Global}
+use Rattle.pm_values.specs.declared.record.Stamped.{Stamped}
 use Rattle.pm_values.specs.declared.refusal.Refusal.{Refusal}
 use Rattle.pm_values.specs.declared.refusal.Refusal.TheVariants as refusals
 use Rattle.pm_store.specs.declared.answer.Answer.{Answer}
@@ -8,8 +9,8 @@ use Rattle.pm_store.specs.declared.answer.Answer.TheVariants as answers
 use Rattle.pm_store.specs.declared.call.Call.{Call}
 use Rattle.pm_store.specs.declared.call.Call.TheVariants as calls
 use Rattle.pm_schema.specs.declared.schema.TableSchema.{TableSchema}
-use Rattle.pm_model_following.specs.Following.{frame_head}
 use Rattle.pm_model_folder.specs.Paths.{snapshot_path}
+use Rattle.pm_merged_log.specs.Merged.{merged_frame}
 use Rattle.pm_read_table.specs.Reader.{most}
 use Rattle.pm_read_log.specs.LogReader as log
 use Rattle.pm_read_log.specs.declared.log.Log.{Log}
@@ -51,16 +52,17 @@ IsReady other = ⊥
 
 -- ---- what answers lead to
 
--- with this text the next of these files is to be read, or the frame is ready
-abbrev pub ReadsOn : TableSchema → ℕ → List ℕ → List ChangesFile → Phase → Type 0
-ReadsOn s id text [] later = (whole : Vec ℕ Global) × (whole.items ≡ text) × (later ≡ phases.Ready id whole)
-ReadsOn s id text (file ∷ files) later = later ≡ phases.Files (reading_of s id text file files)
+-- with these rows the next of these files is to be read, or the frame is ready, of all rows merged by key
+abbrev pub ReadsOn : TableSchema → ℕ → List Stamped → List ChangesFile → Phase → Type 0
+ReadsOn s id rows [] later =
+    (whole : Vec ℕ Global) × (whole.items ≡ merged_frame s id rows) × (later ≡ phases.Ready id whole)
+ReadsOn s id rows (file ∷ files) later = later ≡ phases.Files (reading_of s id rows file files)
 
--- once the changelog is ready, its files are to be read, and put to the line that the frame begins with
+-- once the changelog is ready, its files are to be read
 abbrev pub Starts : Log → Phase → Type 0
 Starts l later =
     (length (files_of l.schema l.changes.items) ≤ most)
-    × ReadsOn l.schema l.snapshot.id (frame_head l.snapshot.id) (files_of l.schema l.changes.items) later
+    × ReadsOn l.schema l.snapshot.id [] (files_of l.schema l.changes.items) later
 
 -- with this reader of the changelog
 abbrev pub AfterLog : LogPhase → Phase → Type 0
@@ -72,7 +74,7 @@ abbrev pub Goes : Phase → Answer → Phase → Type 0
 Goes (phases.Log m) answer later = (new : LogPhase) × log.Goes m answer new × AfterLog new later
 Goes (phases.Files r) (answers.Found None) later = later ≡ phases.Again r.id r.next.path
 Goes (phases.Files r) (answers.Found (Some bytes)) later =
-    (text : List ℕ) × Takes r.schema r.next bytes r.text text × ReadsOn r.schema r.id text r.rest later
+    (rows : List Stamped) × Takes r.schema r.next bytes r.rows rows × ReadsOn r.schema r.id rows r.rest later
 Goes phase other later = ⊥
 
 -- memory ran out once the changelog was ready

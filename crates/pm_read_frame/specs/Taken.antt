@@ -1,12 +1,9 @@
--- The changelog files of a snapshot, and what their rows make of a frame's text.
-use Rattle.std.specs.Prelude.{◌≡◌, ℕ, List, [], ◌∷◌, ◌++◌, map, None, Some, Ok, Err, Bool, true, false}
+-- The changelog files of a snapshot, and the rows that are read of them.
+use Rattle.std.specs.Prelude.{◌≡◌, ℕ, List, [], ◌∷◌, ◌++◌, map, None, Some, Ok, Err, true}
 use Rattle.std.specs.FinMap as paths
-use Rattle.std.specs.List.{flat_map}
-use Rattle.pm_base.specs.Newline.{line}
 use Rattle.pm_values.specs.declared.record.Stamped.{Stamped}
 use Rattle.pm_values.specs.declared.refusal.Refusal.{Refusal}
 use Rattle.pm_store.specs.Files.{Files}
-use Rattle.pm_rows.specs.RowText.{row_text}
 use Rattle.pm_schema.specs.declared.schema.TableSchema.{TableSchema}
 use Rattle.pm_run.specs.Reader.{OpensRun, RunView}
 use Rattle.pm_run.specs.Rows.{Follow}
@@ -22,16 +19,6 @@ file_of s e = record { path = data_path s e.group e.file.name; schema_id = e.fil
 abbrev pub files_of : TableSchema → List Entry → List ChangesFile
 files_of s es = map (file_of s) es
 
--- the lines of rows, each of its kind
-abbrev pub lines_of : List Stamped → List ℕ
-lines_of rows = flat_map (λ (x : Stamped). line (row_text x.kind x.row)) rows
-
--- Private: the first of the rows is given, the others are left, and its line is put to the text; or there is none
-abbrev pub GivesLine : Bool → List Stamped → List Stamped → List ℕ → List ℕ → Type 0
-GivesLine true rows left old new =
-    (x : Stamped) × (rows ≡ x ∷ left) × (new ≡ old ++ line (row_text x.kind x.row))
-GivesLine false rows left old new = (rows ≡ []) × (new ≡ old)
-
 -- the file with these bytes has these rows, which follow one another
 abbrev pub IsReadAs : TableSchema → ChangesFile → List ℕ → List Stamped → Type 0
 IsReadAs s file bytes rows = (v : RunView) × OpensRun s true file.schema_id file.path bytes (Ok v)
@@ -43,12 +30,12 @@ pub data RefusesFile (s : TableSchema) (file : ChangesFile) (bytes : List ℕ) (
   misread : (v : RunView) (rows : List Stamped) → OpensRun s true file.schema_id file.path bytes (Ok v)
       → Follow v.opened v.opened.file.first None rows (Some refusal) → RefusesFile s file bytes refusal
 
--- a file of these bytes is read: the lines of its rows are put to the text
-abbrev pub Takes : TableSchema → ChangesFile → List ℕ → List ℕ → List ℕ → Type 0
-Takes s file bytes old new = (rows : List Stamped) × IsReadAs s file bytes rows × (new ≡ old ++ lines_of rows)
+-- a file of these bytes is read: its rows are put to those before
+abbrev pub Takes : TableSchema → ChangesFile → List ℕ → List Stamped → List Stamped → Type 0
+Takes s file bytes old new = (rows : List Stamped) × IsReadAs s file bytes rows × (new ≡ old ++ rows)
 
--- what the files at these paths make of a text, one after another
-abbrev pub HaveTaken : Files → TableSchema → List ChangesFile → List ℕ → List ℕ → Type 0
+-- what the rows of the files at these paths make of rows, one file after another
+abbrev pub HaveTaken : Files → TableSchema → List ChangesFile → List Stamped → List Stamped → Type 0
 HaveTaken f s [] old new = new ≡ old
-HaveTaken f s (file ∷ files) old new = (bytes : List ℕ) × (middle : List ℕ) × (paths.get f file.path ≡ Some bytes)
-    × Takes s file bytes old middle × HaveTaken f s files middle new
+HaveTaken f s (file ∷ files) old new = (bytes : List ℕ) × (middle : List Stamped)
+    × (paths.get f file.path ≡ Some bytes) × Takes s file bytes old middle × HaveTaken f s files middle new

@@ -1,13 +1,14 @@
 -- The own calls of a reader of a frame, and what they show.
 use Rattle.std.specs.Prelude.{◌≡◌, ◌⊎◌, ℕ, List, [], ◌∷◌, ◌++◌, Option, None, Some}
+use Rattle.pm_values.specs.declared.record.Stamped.{Stamped}
 use Rattle.pm_values.specs.declared.refusal.Refusal.{Refusal}
 use Rattle.pm_values.specs.declared.refusal.Refusal.TheVariants as refusals
 use Rattle.pm_store.specs.declared.answer.Answer.{Answer}
 use Rattle.pm_store.specs.declared.answer.Answer.TheVariants as answers
 use Rattle.pm_machine.specs.Trace.{Event, IsFailed, MayEnd}
 use Rattle.pm_schema.specs.declared.schema.TableSchema.{TableSchema}
-use Rattle.pm_model_following.specs.Following.{frame_head}
 use Rattle.pm_model_folder.specs.Paths.{snapshot_path}
+use Rattle.pm_merged_log.specs.Merged.{merged_frame}
 use Rattle.pm_read_table.specs.Trace.{read_file}
 use Rattle.pm_read_log.specs.Log.{LogAskedView}
 use Rattle.pm_read_log.specs.LogReader as log_machine
@@ -23,43 +24,44 @@ use Rattle.pm_read_frame.specs.declared.phase.Phase.TheVariants as phases
 
 -- ---- how far the calls have come
 
--- each of the files was read, in their order, and this is what they made of a text
-abbrev pub HaveRead : TableSchema → List ChangesFile → List ℕ → List ℕ → List Event → Type 0
+-- each of the files was read, in their order, and this is what their rows made of others
+abbrev pub HaveRead : TableSchema → List ChangesFile → List Stamped → List Stamped → List Event → Type 0
 HaveRead s [] old new own = (new ≡ old) × (own ≡ [])
-HaveRead s (file ∷ files) old new own = (bytes : List ℕ) × (middle : List ℕ) × (events : List Event)
+HaveRead s (file ∷ files) old new own = (bytes : List ℕ) × (middle : List Stamped) × (events : List Event)
     × Takes s file bytes old middle × (own ≡ read_file file.path (Some bytes) ∷ events)
     × HaveRead s files middle new events
 
--- The changelog was read, whose files are those that were read and those that are left, and this text is the line that
--- the frame begins with and what the first have.
-pub record HasPart (a : LogAskedView) (l : Log) (text : List ℕ) (rest : List ChangesFile) (own : List Event)
+-- The changelog was read, whose files are those that were read and those that are left, and these rows are those of the
+-- first.
+pub record HasPart (a : LogAskedView) (l : Log) (rows : List Stamped) (rest : List ChangesFile) (own : List Event)
     : Type 0 where
   pub first : List Event
   pub logged : HasLog a l first
   pub done : List ChangesFile
   pub parts : files_of l.schema l.changes.items ≡ done ++ rest
   pub reads : List Event
-  pub read : HaveRead l.schema done (frame_head l.snapshot.id) text reads
+  pub read : HaveRead l.schema done [] rows reads
   pub is : own ≡ first ++ reads
 
--- all files were read, and this is the frame's text
+-- all files were read, and this is the frame that their rows make, merged by key
 abbrev pub HasFrame : LogAskedView → List ℕ → List Event → Type 0
-HasFrame a text own = (l : Log) × HasPart a l text [] own
+HasFrame a text own =
+    (l : Log) × (rows : List Stamped) × HasPart a l rows [] own × (text ≡ merged_frame l.schema a.id rows)
 
 -- this was found at the path of the next file
-abbrev pub FindsNext : LogAskedView → Log → List ℕ → ChangesFile → List ChangesFile → Option (List ℕ) → List Event
-    → Type 0
-FindsNext a l text file rest found own =
-    (earlier : List Event) × HasPart a l text (file ∷ rest) earlier × (own ≡ earlier ++ read_file file.path found ∷ [])
+abbrev pub FindsNext : LogAskedView → Log → List Stamped → ChangesFile → List ChangesFile → Option (List ℕ)
+    → List Event → Type 0
+FindsNext a l rows file rest found own =
+    (earlier : List Event) × HasPart a l rows (file ∷ rest) earlier × (own ≡ earlier ++ read_file file.path found ∷ [])
 
 -- a file was found absent at the path
 pub record LacksFile (a : LogAskedView) (path : List ℕ) (own : List Event) : Type 0 where
   pub log : Log
-  pub text : List ℕ
+  pub rows : List Stamped
   pub file : ChangesFile
   pub rest : List ChangesFile
   pub is_path : path ≡ file.path
-  pub absent : FindsNext a log text file rest None own
+  pub absent : FindsNext a log rows file rest None own
 
 -- and then this was found at the path of the snapshot
 abbrev pub ReadsAgain : LogAskedView → List ℕ → Option (List ℕ) → List Event → Type 0
@@ -72,7 +74,7 @@ ReadsAgain a path found own =
 abbrev pub DidSoFar : LogAskedView → Phase → List Event → Type 0
 DidSoFar a (phases.Log m) own = log.Did a m own
 DidSoFar a (phases.Files r) own =
-    (l : Log) × (r.schema ≡ l.schema) × (r.id ≡ a.id) × HasPart a l r.text (r.next ∷ r.rest) own
+    (l : Log) × (r.schema ≡ l.schema) × (r.id ≡ a.id) × HasPart a l r.rows (r.next ∷ r.rest) own
 DidSoFar a (phases.Again id path) own = (id ≡ a.id) × LacksFile a path own
 DidSoFar a (phases.Ready id text) own = (id ≡ a.id) × HasFrame a text.items own
 DidSoFar a phases.Over own = ⊥
@@ -85,8 +87,8 @@ MayTakeMemory m answer = ⊥
 
 -- a file was found with bytes that are refused so
 abbrev pub Misreads : LogAskedView → Refusal → List Event → Type 0
-Misreads a refusal own = (l : Log) × (text : List ℕ) × (file : ChangesFile) × (rest : List ChangesFile)
-    × (bytes : List ℕ) × RefusesFile l.schema file bytes refusal × FindsNext a l text file rest (Some bytes) own
+Misreads a refusal own = (l : Log) × (rows : List Stamped) × (file : ChangesFile) × (rest : List ChangesFile)
+    × (bytes : List ℕ) × RefusesFile l.schema file bytes refusal × FindsNext a l rows file rest (Some bytes) own
 
 -- a file is damaged: it was absent though the snapshot stands, or its bytes are refused so
 abbrev pub IsDamaged : LogAskedView → List ℕ → ℕ → List Event → Type 0

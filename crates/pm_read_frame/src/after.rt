@@ -2,25 +2,27 @@
 //!
 //! What isn't handed on is dropped by name, as in `pm_read_table`.
 
-ghost use Rattle.std.specs.Prelude.{◌≡◌, ◌⊎◌, ◌<◌, ◌≤◌, length, Some, IfErr, IfOk, IsSomeAnd, OnErr};
-ghost use Rattle.pm_model_following.specs.Following.{frame_head};
+ghost use Rattle.std.specs.Prelude.{◌≡◌, ◌⊎◌, ◌<◌, [], ◌++◌, true, None, Some, IfErr, IfOk, IsSomeAnd, OnErr};
+ghost use Rattle.pm_merged_log.specs.Merged.{HaveOwnKeys};
 ghost use Rattle.pm_read_log.specs.LogReader as logs;
-ghost use Rattle.pm_read_table.specs.Reader.{most};
 ghost use Rattle.pm_read_table.specs.View.{HaveGroups};
+ghost use Rattle.pm_run.specs.Order.{are_in_order};
 ghost use Rattle.pm_store.specs.Answers.{MayAnswer};
 ghost use Rattle.pm_store.specs.declared.answer.Answer.TheVariants as answers;
 ghost use Rattle.pm_read_frame.specs.Reader.{AfterLog, Goes, IsReader, ReadsOn, Shown, Starts};
-ghost use Rattle.pm_read_frame.specs.Taken.{files_of};
+ghost use Rattle.pm_read_frame.specs.Reading.{reading_of};
 ghost use Rattle.pm_read_frame.specs.declared.phase.Phase.TheVariants as phases;
 
-use crate::file::{ChangesFile, files_of};
-use crate::lines::push_file;
+use crate::file::{ChangesFile, files_of, rows_of};
 use crate::phase::Phase;
 use crate::reading::Reading;
 use pm_base::{Blob, Txt};
 use pm_machine::Machine;
-use pm_manifest::Entry;
+use pm_merged_log::{empty_frame, frame_text, own_keys_law, pack_rows};
+use pm_packed::PackedRows;
 use pm_read_log::{Log, LogReader, into_log, is_log_ready};
+use pm_run::order_law;
+use pm_scan_rows::StoredRun;
 use pm_schema::TableSchema;
 use pm_store::Answer;
 use pm_values::Refusal;
@@ -80,10 +82,10 @@ fn start(alloc: Global, log: Log) -> Result<Phase, AllocError>
     let id = snapshot.id;
     drop(snapshot);
     drop(manifests);
-    let parts = parts_of(alloc, &schema, id, changes.as_slice());
+    let files = files_of(alloc, &schema, changes.as_slice());
     drop(changes);
-    match parts {
-        Ok((files, text)) => Ok(read_on(schema, id, text, files)),
+    match files {
+        Ok(files) => begin(alloc, schema, id, files),
         Err(error) => {
             drop(schema);
             Err(error)
@@ -91,58 +93,98 @@ fn start(alloc: Global, log: Log) -> Result<Phase, AllocError>
     }
 }
 
-/// The files of a changelog's entries, and the line that the frame of the snapshot with the id begins with.
-fn parts_of(
+/// The phase in which the first of these files is to be read, or the frame of the snapshot with the id, which has none.
+fn begin(
     alloc: Global,
-    schema: &TableSchema,
+    schema: TableSchema,
     id: u64,
-    changes: &[Entry],
-) -> Result<(VecDeque<ChangesFile>, Vec<u8>), AllocError>
-    requires { HaveGroups schema.now changes.now }
-    ensures files { IfOk result (λ parts. parts.0.items ≡ files_of schema.now changes.now) }
-    ensures within { IfOk result (λ parts. length parts.0.items ≤ most) }
-    ensures head { IfOk result (λ parts. parts.1.items ≡ frame_head id) }
-{
-    let files = files_of(alloc, schema, changes)?;
-    match head_of(alloc, id) {
-        Ok(text) => Ok((files, text)),
-        Err(error) => {
-            drop(files);
-            Err(error)
-        }
-    }
-}
-
-/// The line that the frame of the snapshot with the id begins with.
-fn head_of(alloc: Global, id: u64) -> Result<Vec<u8>, AllocError>
-    ensures { IfOk result (λ text. text.items ≡ frame_head id) }
-{
-    let head = format!(in alloc; "{{\"snapshot\":{id}}}")?;
-    let mut text = head.into_bytes();
-    text.push(b'\n')?;
-    Ok(text)
-}
-
-/// The phase in which the next of these files is to be read, or the frame has this text.
-fn read_on(schema: TableSchema, id: u64, text: Vec<u8>, left: VecDeque<ChangesFile>) -> Phase
-    ensures goes { ReadsOn schema id text.items left.items result }
-    ensures is_reader { IsReader result }
+    left: VecDeque<ChangesFile>,
+) -> Result<Phase, AllocError>
+    ensures goes { IfOk result (ReadsOn schema id [] left.items) }
+    ensures is_reader { IfOk result IsReader }
 {
     let mut rest = left;
     match rest.pop_front() {
-        Some(next) => Phase::Files {
+        Some(next) => Ok(Phase::Files {
             reading: Reading {
                 schema,
                 id,
-                text,
+                rows: PackedRows::new(alloc),
                 next,
                 rest,
             },
-        },
+        }),
         None => {
             drop(schema);
             drop(rest);
-            Phase::Ready { id, text }
+            let text = empty_frame(alloc, id)?;
+            Ok(Phase::Ready { id, text })
+        }
+    }
+}
+
+/// The phase once a file with these rows was read, behind those with the packed ones: the next of the files that are left
+/// is to be read, or the frame is made of all rows.
+fn read_on(
+    alloc: Global,
+    schema: TableSchema,
+    id: u64,
+    rows: PackedRows,
+    run: StoredRun,
+    left: VecDeque<ChangesFile>,
+) -> Result<Phase, AllocError>
+    requires own { HaveOwnKeys schema (rows ++ run) }
+    requires order { are_in_order true None run ≡ true }
+    ensures goes { IfOk result (ReadsOn schema id (rows ++ run) left.items) }
+    ensures is_reader { IfOk result IsReader }
+{
+    let mut rest = left;
+    match rest.pop_front() {
+        Some(next) => pack_on(alloc, schema, id, rows, run, next, rest),
+        None => {
+            drop(schema);
+            drop(rest);
+            let text = frame_text(alloc, id, rows, &run)?;
+            Ok(Phase::Ready { id, text })
+        }
+    }
+}
+
+/// The phase in which this next file is to be read, with the rows that were read before packed.
+fn pack_on(
+    alloc: Global,
+    schema: TableSchema,
+    id: u64,
+    rows: PackedRows,
+    run: StoredRun,
+    next: ChangesFile,
+    rest: VecDeque<ChangesFile>,
+) -> Result<Phase, AllocError>
+    requires { HaveOwnKeys schema (rows ++ run) }
+    ensures goes { IfOk result (λ phase. phase ≡ phases.Files (reading_of schema id (rows ++ run) next rest.items)) }
+    ensures is_reader { IfOk result IsReader }
+{
+    let mut rows = rows;
+    match pack_rows(alloc, &run, &mut rows) {
+        Ok(()) => {
+            drop(run);
+            Ok(Phase::Files {
+                reading: Reading {
+                    schema,
+                    id,
+                    rows,
+                    next,
+                    rest,
+                },
+            })
+        }
+        Err(error) => {
+            drop(schema);
+            drop(rows);
+            drop(run);
+            drop(next);
+            drop(rest);
+            Err(error)
         }
     }
 }
@@ -169,21 +211,25 @@ fn after_bytes(alloc: Global, reading: Reading, bytes: Blob) -> Result<Phase, Re
     ensures is_reader { IfOk result IsReader }
     ensures refuses { IfErr result (Shown (phases.Files reading) (answers.Found (Some bytes))) }
 {
+    order_law();
+    own_keys_law();
     let Reading {
         schema,
         id,
-        text,
+        rows,
         next,
         rest,
     } = reading;
-    let mut text = text;
-    let pushed = push_file(alloc, &schema, &next, bytes, &mut text);
+    let run = rows_of(alloc, &schema, &next, bytes);
     drop(next);
-    match pushed {
-        Ok(()) => Ok(read_on(schema, id, text, rest)),
+    match run {
+        Ok(run) => match read_on(alloc, schema, id, rows, run, rest) {
+            Ok(phase) => Ok(phase),
+            Err(_) => Err(Refusal::Memory),
+        },
         Err(refusal) => {
             drop(schema);
-            drop(text);
+            drop(rows);
             drop(rest);
             Err(refusal)
         }
@@ -197,12 +243,12 @@ fn again(reading: Reading) -> Phase
     let Reading {
         schema,
         id,
-        text,
+        rows,
         next,
         rest,
     } = reading;
     drop(schema);
-    drop(text);
+    drop(rows);
     drop(rest);
     let ChangesFile { path, .. } = next;
     Phase::Again { id, path }

@@ -1,15 +1,19 @@
 //! Changelog files in the order in which they are read.
 
-ghost use Rattle.std.specs.Prelude.{◌≡◌, ◌≤◌, IfOk, length};
+ghost use Rattle.std.specs.Prelude.{◌≡◌, ◌⊎◌, ◌≤◌, IfErr, IfOk, length};
 ghost use Rattle.pm_read_table.specs.Reader.{most};
 ghost use Rattle.pm_read_table.specs.View.{HaveGroups};
 ghost use Rattle.pm_schema.specs.Folder.{FitsPartition};
-ghost use Rattle.pm_read_frame.specs.Taken.{file_of, files_of};
+ghost use Rattle.pm_values.specs.declared.refusal.Refusal.TheVariants as refusals;
+ghost use Rattle.pm_read_frame.specs.Taken.{IsReadAs, RefusesFile, file_of, files_of};
 
-use pm_base::Txt;
+use pm_base::{Blob, Txt};
 use pm_manifest::Entry;
 use pm_model_contents::data_path;
+use pm_run_reader::RunReader;
+use pm_scan_rows::StoredRun;
 use pm_schema::TableSchema;
+use pm_values::Refusal;
 use std::alloc::{AllocError, Global};
 use std::collections::VecDeque;
 
@@ -46,4 +50,27 @@ fn file_of(alloc: Global, schema: &TableSchema, entry: &Entry) -> Result<Changes
         path: data_path(alloc, schema, &entry.group, &entry.file.name)?,
         schema_id: entry.file.schema_id,
     })
+}
+
+/// The rows of a file that has these bytes: all of them are judged. Refusals are those of `RunReader`.
+pub(crate) fn rows_of(
+    alloc: Global,
+    schema: &TableSchema,
+    file: &ChangesFile,
+    bytes: Blob,
+) -> Result<StoredRun, Refusal>
+    ensures reads { IfOk result (λ run. IsReadAs schema.now file.now bytes run) }
+    ensures refuses { IfErr result (λ e. (e ≡ refusals.Memory) ⊎ RefusesFile schema.now file.now bytes e) }
+{
+    let reader = RunReader::open(
+        alloc,
+        file.path.as_str(),
+        schema,
+        file.schema_id,
+        bytes,
+        true,
+    )?;
+    let mut run = StoredRun::new(alloc);
+    run.append(alloc, reader)?;
+    Ok(run)
 }

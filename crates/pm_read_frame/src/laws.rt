@@ -18,21 +18,25 @@ ghost use Rattle.pm_store.specs.Images.{MayLeave};
 ghost use Rattle.pm_store.specs.Store.{StoreView};
 ghost use Rattle.pm_read_log.specs.declared.log.Log.{Log as LogView};
 ghost use Rattle.pm_read_table.specs.Meaning.{MayRefuse};
+ghost use Rattle.pm_values.specs.declared.record.Stamped.{Stamped};
 ghost use Rattle.pm_values.specs.declared.refusal.Refusal.{Refusal};
 ghost use Rattle.pm_values.specs.declared.refusal.Refusal.TheVariants as refusals;
+ghost use Rattle.pm_merged_log.specs.Merged.{merged_frame};
 ghost use Rattle.pm_read_frame.specs.AllCalls.{DidFrame, ReadsFrames};
 ghost use Rattle.pm_read_frame.specs.Frames.{AreFramesFrom, IsFrameOf, joined};
-ghost use Rattle.pm_read_frame.specs.Meaning.{HasOneLog, HasTaken, IsFrame, Knows};
+ghost use Rattle.pm_read_frame.specs.Meaning.{HasProducer, HasTaken, IsFrame, Knows};
 ghost use Rattle.pm_read_frame.specs.Reader.{next_call, Shown};
 ghost use Rattle.pm_read_frame.specs.declared.phase.Phase.{Phase};
 
 use pm_avro_file::one_opening_law;
 use pm_manifest::{Entry, ManifestMeta};
+use pm_model_changelog::parts_law;
 use pm_model_contents::one_contents_law;
 use pm_model_following::kept_law;
 use pm_read_log::log_causes_law;
 use pm_record::one_reading_law;
 use pm_run::{one_list_law, reading_law};
+use pm_schema::{declared_law, schema_law};
 
 /// What a reader of a frame knows stays true through each kind of change of every actor.
 pub fn known_law()
@@ -78,8 +82,8 @@ pub fn one_answer_law()
 }
 
 /// A frame that is known is one of the history from then on, however far it goes on; and behind frames up to a snapshot
-/// comes that of the next one. Of a table with one group and a producer such frames are, one after another, those of
-/// its snapshots from the first of them on, of which none is left out and none isn't there.
+/// comes that of the next one. Of a table with a producer such frames are, one after another, those of its snapshots
+/// from the first of them on, of which none is left out and none isn't there.
 pub fn frames_law()
     ensures known { (f : Files) (p : Past) (id : ℕ) (text : List ℕ) → Stands f p → IsFrame p id text
         → IsFrameOf p.history id text }
@@ -89,21 +93,24 @@ pub fn frames_law()
         → IsFrameOf h (id + length texts) text → AreFramesFrom h id (texts ++ text ∷ []) }
     ensures within { (s : TableSchema) (entries : List CommitView) (id : ℕ) (texts : List (List ℕ))
         → AreFramesFrom (table s entries) id texts → length texts ≤ suc (length entries) - id }
-    ensures text { (s : TableSchema) (entries : List CommitView) (id : ℕ) (texts : List (List ℕ)) → HasOneLog s
+    ensures text { (s : TableSchema) (entries : List CommitView) (id : ℕ) (texts : List (List ℕ)) → HasProducer s
         → AreFramesFrom (table s entries) id texts
         → joined texts ≡ flat_map (frame s entries) (range_with_len id (length texts)) }
 {
     kept_law();
 }
 
-/// Once all files of a changelog were read, the text is the frame of its snapshot.
+/// Once all files of a changelog were read, their rows, merged by key, make the frame of its snapshot.
 pub(crate) fn taken_law()
-    ensures { (f : Files) (p : Past) (l : LogView) (text : List ℕ) → Stands f p → HasTaken p l text []
-        → IsFrame p l.snapshot.id text }
+    ensures { (f : Files) (p : Past) (l : LogView) (rows : List Stamped) → Stands f p → HasTaken p l rows []
+        → IsFrame p l.snapshot.id (merged_frame l.schema l.snapshot.id rows) }
 {
     one_contents_law();
     one_list_law();
     reading_law();
+    declared_law();
+    schema_law();
+    parts_law();
     kept_law();
 }
 
@@ -117,5 +124,8 @@ pub fn all_calls_law()
     one_opening_law();
     one_list_law();
     reading_law();
+    declared_law();
+    schema_law();
+    parts_law();
     kept_law();
 }

@@ -1,6 +1,5 @@
 use Rattle.std.specs.Result.{result_err}
 use Rattle.std.proofs.lemmas.Result.{err_from_is_err_and}
-use Rattle.pm_command_consume.proofs.BesideLemmas.{one_log}
 use Rattle.pm_command_consume.proofs.OpenLemmas.{frames_beside, listing_stops, opens_so}
 use Rattle.pm_command_consume.proofs.PieceLemmas.{frames_shown, second_shown}
 use Rattle.pm_command_consume.proofs.consume.consume_on.Goals as goal
@@ -37,4 +36,4 @@ returns-clause-beside g c = λ me full table text out_first first opens opened.
     frames_beside c.pieces_law.ensures.first me c.args.schema.now c.args.consuming.now c.args.place full table text out_first out out_after first store opens opened
     c.in_ok-latest.latest (g.F.FileStore.seen c.read_latest.new.store) (g.F.FileStore.seen c.hand_out_frames.new.store) c.in_ok-latest.ensures.trace
     c.in_ok-latest.ensures.beside (result_err c.hand_out_frames.result) c.hand_out_frames.ensures.hands
-    (c.hand_out_frames.ensures.beside me (one_log c.args.schema.now so))
+    (c.hand_out_frames.ensures.beside me so.0)

@@ -12,7 +12,11 @@ returns c =
         rows = c.one_list_law.ensures.follow;
       };
       opened = c.reading_law.ensures.opens;
-      rows = record { follow = c.one_list_law.ensures.follow; gives = c.reading_law.ensures.gives };
-      kept = c.kept_law.ensures.change;
+      frame = record {
+        rows = record { follow = c.one_list_law.ensures.follow; gives = c.reading_law.ensures.gives };
+        kept = c.kept_law.ensures.change;
+        parts = c.parts_law.ensures;
+        declared = λ path bytes s read. c.declared_law.ensures.file path bytes s ((c.schema_law.ensures.exact path bytes s).0 read);
+      };
     } in
     frame_history laws

@@ -3,7 +3,7 @@ use Rattle.std.proofs.lemmas.Result.{err_from_is_err_and}
 use Rattle.pm_values.specs.declared.refusal.Refusal.TheVariants as refusals
 use Rattle.pm_read_frame.specs.Taken.{RefusesFile, misread}
 use Rattle.pm_run.proofs.FaultLemmas.{memory_or}
-use Rattle.pm_read_frame.proofs.lines.push_file.Goals as goal
+use Rattle.pm_read_frame.proofs.file.rows_of.Goals as goal
 
 pub returns-in_err-append-clause-refuses : goal.returns-in_err-append-clause-refuses
 returns-in_err-append-clause-refuses c =
