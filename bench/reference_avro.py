@@ -267,6 +267,29 @@ def binary(kinds, values):
     return struct.pack(">i", len(kinds)) + bytes(body) + tails
 
 
+def hash_of(body):
+    """The hash of a row's body, a number with a sign: Murmur3 of 32 bits over its words of four bytes, from 42 on."""
+    found = 42
+    for (word,) in struct.iter_unpack("<I", body):
+        word = turned(word * 0xCC9E2D51, 15) * 0x1B873593 % 2**32
+        found = (turned(found ^ word, 13) * 5 + 0xE6546B64) % 2**32
+    found ^= len(body)
+    for shift, factor in ((16, 0x85EBCA6B), (13, 0xC2B2AE35), (16, 1)):
+        found = (found ^ found >> shift) * factor % 2**32
+    return found - 2**32 if found >= 2**31 else found
+
+
+def turned(word, bits):
+    """A word whose bits go to the left in a circle."""
+    word %= 2**32
+    return (word << bits | word >> 32 - bits) % 2**32
+
+
+def bucket_of(kinds, values, buckets):
+    """The bucket of a key among so many."""
+    return abs(hash_of(binary(kinds, values)[4:])) % buckets
+
+
 def slot_of(kind, value, tail):
     """The slot of a value, whose tail, where it has one, begins there."""
     if kind in WIDTHS:

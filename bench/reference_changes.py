@@ -14,13 +14,17 @@ from reference_files import (
     data_file,
     entry,
     file_of,
+    folder_of,
+    group_of,
+    group_runs,
+    id_of,
+    in_groups,
     list_file,
     manifest_file,
     meta_of,
     print_json,
     read_schema,
     read_snapshot,
-    runs,
     schema_file,
     snapshot_ids,
     stored_run,
@@ -53,16 +57,16 @@ class Session:
         if used:
             raise Refused(f"E20 session used manifest/{min(used, key=str.encode)}")
 
-    def add_changes(self, schema, rows):
-        """Creates the changelog file of rows, each with its kind."""
-        return self.add_data(schema, [(at, kind, row) for at, (kind, row) in enumerate(rows)], 0, "changelog")
+    def add_changes(self, schema, group, rows):
+        """Creates the changelog file of rows of a group, each with its kind."""
+        return self.add_data(schema, group, [(at, kind, row) for at, (kind, row) in enumerate(rows)], 0, "changelog")
 
-    def add_data(self, schema, run, level, word="data"):
-        """Creates the data file of a run, or the file of changes that have numbers."""
+    def add_data(self, schema, group, run, level, word="data"):
+        """Creates the data file of a run of a group, or the file of changes that have numbers."""
         name = self.name(word, ".avro")
         data = data_file(schema, run, self.marker)
-        self.create(f"bucket-0/{name}", data)
-        return file_of(schema, name, data, run, level)
+        self.create(f"{folder_of(schema, group)}/{name}", data)
+        return file_of(schema, group, name, data, run, level)
 
     def add_manifest(self, schema, entries):
         name = self.name("manifest")
@@ -70,9 +74,9 @@ class Session:
         self.create(f"manifest/{name}", data)
         return meta_of(schema, name, data, entries)
 
-    def add_list(self, metas):
+    def add_list(self, schema, metas):
         name = self.name("manifest-list")
-        self.create(f"manifest/{name}", list_file(metas, self.marker))
+        self.create(f"manifest/{name}", list_file(schema, metas, self.marker))
         return name
 
 
@@ -92,27 +96,30 @@ def write(folder, data, session, time, user=None, ident=None):
         return "nothing to commit\n"
     made = Session(folder, session, time)
     made.judge_names()
-    return commit(made, schema, Append(rows, user, GREATEST if ident is None else ident))
+    groups = in_groups(schema, rows, lambda row: group_of(schema, row[1]))
+    return commit(made, schema, Append(groups, user, GREATEST if ident is None else ident))
 
 
 def compact(folder, full, session, time):
     schema = read_schema(folder)
     view = newest_view(folder, schema)
-    found = runs(view.live)
     asked = asked_in(schema, full, int(view.properties["appends"]), int(view.properties["full"]))
-    sizes = [(run[0]["level"], sum(file["size"] for file in run)) for run in found]
-    choice = Choice(schema, sizes).of(asked)
-    if choice is None:
+    chosen = {}
+    for group, found in group_runs(schema, view.live).items():
+        sizes = [(run[0]["level"], sum(file["size"] for file in run)) for run in found]
+        choice = Choice(schema, sizes).of(asked)
+        if choice is not None:
+            chosen[group] = found, *choice
+    if not chosen:
         return "nothing to compact\n"
     made = Session(folder, session, time)
     made.judge_names()
-    count, level = choice
-    rows = [view.run_rows(run) for run in found[:count]]
-    log = log_in(view, found, rows)
-    files = pieces(merged(schema, rows[::-1], count == len(found)))
-    removed = [file for run in found[:count] for file in run]
-    full_at = view.properties["appends"] if asked == "all" else None
-    return commit(made, schema, Compaction(removed, files, level, full_at, log), view)
+    change = Compaction(view.properties["appends"] if asked == "all" else None)
+    for group, (found, count, level) in chosen.items():
+        rows = [view.run_rows(run) for run in found[:count]]
+        log = log_in(view, found, rows)
+        change.take(group, found[:count], pieces(merged(schema, rows[::-1], count == len(found))), level, log)
+    return commit(made, schema, change, view)
 
 
 def log_in(view, found, rows):
@@ -129,12 +136,13 @@ def log_in(view, found, rows):
 
 
 class Append:
-    """Rows that become one run at level 0, by a user or by the session itself."""
+    """Rows by group, which become one run of each at level 0, by a user or by the session itself."""
 
-    kind, appends, made, full, removed = "APPEND", 1, 1, None, ()
+    kind, appends, full, removed = "APPEND", 1, None, ()
 
-    def __init__(self, rows, user, ident):
-        self.rows, self.user, self.ident = rows, user, ident
+    def __init__(self, groups, user, ident):
+        self.groups, self.user, self.ident = groups, user, ident
+        self.made = len(groups)
 
     def is_done(self, view):
         """Whether the newest commit of the user that is found has this identifier or a greater one."""
@@ -147,7 +155,7 @@ class Append:
         return found is not None and found["commitUser"] == self.user and found["commitIdentifier"] >= self.ident
 
     def judge(self, view):
-        if first_number(view) + len(self.rows) - 1 > GREATEST_SEQUENCE:
+        if any(first_number(view, group) + len(rows) - 1 > GREATEST_SEQUENCE for group, rows in self.groups.items()):
             raise Refused(f"E21 limit sequence {GREATEST_SEQUENCE}")
 
     def judge_files(self, view):
@@ -155,28 +163,41 @@ class Append:
 
     def added(self, made, schema, view):
         """Creates the data files."""
-        return [made.add_data(schema, stored_run(schema, self.rows, first_number(view)), 0)]
+        return [
+            made.add_data(schema, group, stored_run(schema, rows, first_number(view, group)), 0)
+            for group, rows in self.groups.items()
+        ]
 
     def told(self, made, schema):
         """Creates the changelog files, which have all rows by rising key, each as it came."""
         if schema.producer != "input":
             return []
-        return [made.add_changes(schema, [row for of_key in by_key(schema, self.rows) for row in of_key])]
+        return [
+            made.add_changes(schema, group, [row for of_key in by_key(schema, rows) for row in of_key])
+            for group, rows in self.groups.items()
+        ]
 
 
-def first_number(view):
-    return max((file["newest"] for file in view.live), default=-1) + 1
+def first_number(view, group):
+    return max((file["newest"] for file in view.live if file["group"] == group), default=-1) + 1
 
 
 class Compaction:
-    """Files that go, the rows of those that come in their place, and what is told, each with its kind. The files are
-    made in the first try alone."""
+    """Files that go, by group the rows of those that come in their place, and what is told of each group, each with its
+    kind. The files are made in the first try alone."""
 
     kind, appends, user, ident = "COMPACT", 0, None, GREATEST
 
-    def __init__(self, removed, files, level, full, log):
-        self.removed, self.files, self.level, self.full, self.log = removed, files, level, full, log
-        self.made, self.created, self.changes = len(files), None, None
+    def __init__(self, full):
+        self.full, self.removed, self.files, self.logs = full, [], [], []
+        self.made, self.created, self.changes = 0, None, None
+
+    def take(self, group, found, files, level, log):
+        """Takes the runs of a group, what they become at that level, and what is told."""
+        self.removed += [file for run in found for file in run]
+        self.files += [(group, run, level) for run in files]
+        self.logs += [(group, log)] if log else []
+        self.made = len(self.files)
 
     def is_done(self, view):
         """A compaction looks for no user."""
@@ -185,19 +206,19 @@ class Compaction:
         """It has the numbers of the rows that it replaces."""
 
     def judge_files(self, view):
-        live = {(file["name"], file["level"]) for file in view.live}
+        live = {id_of(file) for file in view.live}
         for file in self.removed:
-            if (file["name"], file["level"]) not in live:
+            if id_of(file) not in live:
                 raise Refused(f"E15 taken {file['name']}")
 
     def added(self, made, schema, view):
         if self.created is None:
-            self.created = [made.add_data(schema, run, self.level) for run in self.files]
+            self.created = [made.add_data(schema, group, run, level) for group, run, level in self.files]
         return self.created
 
     def told(self, made, schema):
         if self.changes is None:
-            self.changes = [made.add_changes(schema, self.log)] if self.log else []
+            self.changes = [made.add_changes(schema, group, log) for group, log in self.logs]
         return self.changes
 
 
@@ -215,7 +236,7 @@ def commit(made, schema, change, view=None):
     while len(lost) < TRIES:
         if view is None:
             view = newest_view(made.folder, schema)
-            runs(view.live)
+            group_runs(schema, view.live)
         made.base = view.number if made.base is None else made.base
         if change.is_done(view):
             return "already\n"
@@ -252,12 +273,12 @@ def files_of(made, schema, change, view):
     entries = [entry(schema, False, file) for file in change.removed] + [entry(schema, True, file) for file in added]
     delta = [made.add_manifest(schema, entries)]
     changes = [made.add_manifest(schema, [entry(schema, True, file) for file in told])] if told else []
-    delta = made.add_list(delta)
-    changelog = made.add_list(changes) if changes else None
+    delta = made.add_list(schema, delta)
+    changelog = made.add_list(schema, changes) if changes else None
     counts = [sum(file["rows"] for file in files) for files in (view.live, added, change.removed)]
     appends = int(view.properties["appends"]) + change.appends
     value = {
-        "baseManifestList": made.add_list(metas),
+        "baseManifestList": made.add_list(schema, metas),
         "changelogManifestList": changelog,
         "changelogRecordCount": sum(file["rows"] for file in told),
         "commitIdentifier": change.ident,

@@ -216,8 +216,9 @@ class Table:
         """Whether the compaction that made the newest files passes on all rows before it: with look-ups each does, with
         full compactions one that left no other run."""
         if self.schema.producer == "full-compaction":
-            view = reference_changes.newest_view(self.folder, reference_files.read_schema(self.folder))
-            return len(reference_files.runs(view.live)) <= 1
+            schema = reference_files.read_schema(self.folder)
+            view = reference_changes.newest_view(self.folder, schema)
+            return all(len(found) <= 1 for found in reference_files.group_runs(schema, view.live).values())
         return True
 
     def scan(self, asked):

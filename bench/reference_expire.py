@@ -5,7 +5,7 @@ program: reference_files.py has the folders, and what the files hold.
 
 import re
 
-from reference_files import View, ids, read_schema, read_snapshot, runs, snapshot_ids
+from reference_files import View, group_runs, ids, path_of, read_schema, read_snapshot, snapshot_ids
 from reference_following import consumers_in
 from reference_table import Refused
 
@@ -98,9 +98,9 @@ def named_by(folder, schema, number):
     """The paths that a snapshot names."""
     view = View(folder, schema, number)
     live = view.live_files()
-    runs(live)
+    group_runs(schema, live)
     told = view.changelog_files()
     lists = [view.found.get(f"{word}ManifestList") for word in ("base", "delta", "changelog")]
     manifests = [meta["_FILE_NAME"] for meta in view.metas + view.told]
-    files = {f"bucket-0/{file['name']}" for file in live + told}
+    files = {path_of(schema, file) for file in live + told}
     return files | {f"manifest/{name}" for name in [*lists, *manifests] if name is not None}

@@ -9,7 +9,7 @@ import os
 import re
 import stat
 
-from reference_avro import FIRST_DAY, LAST_DAY, Bad, Blocks, binary, read_binary, written
+from reference_avro import FIRST_DAY, LAST_DAY, Bad, Blocks, binary, bucket_of, read_binary, written
 from reference_compact import stored_row
 from reference_table import (
     ADDING,
@@ -18,7 +18,9 @@ from reference_table import (
     Refused,
     Schema,
     by_key,
+    folder_text,
     is_texts,
+    order,
     print_json,
     printable,
     read_batch,
@@ -196,13 +198,6 @@ def schema_form(value, number):
 
 
 def read_schema(folder):
-    """The table's schema, of a table that can be made."""
-    schema = found_schema(folder)
-    schema.judge_built()
-    return schema
-
-
-def found_schema(folder):
     """The table's schema, with its id and its origin."""
     known = ids(folder.list("schema"), "schema-")
     if not known:
@@ -376,17 +371,19 @@ def read_entry(schema, kind, record):
         raise Bad
     fields = record_fields(kind)
     adds = value_of(fields, record, "_KIND", "int", (0, 1)) == 0
-    read_binary([], value_of(fields, record, "_PARTITION", "bytes"))
-    if value_of(fields, record, "_TOTAL_BUCKETS", "int") != 1:
+    kinds = [kind for _, kind, _ in schema.partition_columns()]
+    partition = read_binary(kinds, value_of(fields, record, "_PARTITION", "bytes"))
+    if value_of(fields, record, "_TOTAL_BUCKETS", "int") != schema.buckets:
         raise unsupported("_TOTAL_BUCKETS", str(record["_TOTAL_BUCKETS"]))
-    value_of(fields, record, "_BUCKET", "int", (0, 0))
+    bucket = value_of(fields, record, "_BUCKET", "int", (0, schema.buckets - 1))
     if record["_FILE"] is None:
         raise Bad
-    return adds, read_file_meta(schema, file_fields(kind), record["_FILE"])
+    group = tuple(shown(*found) for found in zip(kinds, partition)), bucket
+    return adds, read_file_meta(schema, group, file_fields(kind), record["_FILE"])
 
 
-def read_file_meta(schema, fields, record):
-    """What an entry tells of a file."""
+def read_file_meta(schema, group, fields, record):
+    """What an entry tells of a file of a group."""
     name = value_of(fields, record, "_FILE_NAME", "string")
     if not name.endswith(".avro"):
         raise unsupported("file", name)
@@ -399,8 +396,9 @@ def read_file_meta(schema, fields, record):
     level = value_of(fields, record, "_LEVEL", "int", (0, 2**31 - 1))
     if fields["_CREATION_TIME"] != "null" and not may_stand(fields["_CREATION_TIME"], "long", True):
         raise Bad
-    orders = [tuple(stored_order(value) for value in key) for key in (least, greatest)]
+    orders = [key_in(schema, group, key) for key in (least, greatest)]
     return {
+        "group": group,
         "name": name,
         "level": level,
         "schema": record["_SCHEMA_ID"],
@@ -415,8 +413,50 @@ def read_file_meta(schema, fields, record):
     }
 
 
-def stored_order(value):
-    return value.encode() if isinstance(value, str) else value
+# Groups: a partition's printed values, and a bucket.
+
+
+def group_of(schema, row):
+    """The group of a row."""
+    own = [(kind, row[schema.names.index(name)]) for name, kind, _ in schema.key_columns()]
+    bucket = bucket_of([kind for kind, _ in own], [stored(*found) for found in own], schema.buckets)
+    return tuple(row[schema.names.index(name)] for name in schema.partition), bucket
+
+
+def by_group(schema, group):
+    """What the order of groups compares."""
+    kinds = [kind for _, kind, _ in schema.partition_columns()]
+    return [order(*found) for found in zip(kinds, group[0])], group[1]
+
+
+def in_groups(schema, items, of):
+    """Items by rising group, those of each in their order."""
+    found = {}
+    for item in items:
+        found.setdefault(of(item), []).append(item)
+    return {group: found[group] for group in sorted(found, key=lambda group: by_group(schema, group))}
+
+
+def key_in(schema, group, key):
+    """The key that a group and a key's stored values beside it make, in the order of keys."""
+    values = dict(zip(schema.partition, group[0]))
+    return schema.key_of(values | {name: shown(kind, value) for (name, kind, _), value in zip(schema.key_columns(), key)})
+
+
+def folder_of(schema, group):
+    """The path of a group's folder."""
+    parts = [f"{name}={escaped(value)}/" for name, value in zip(schema.partition, group[0])]
+    return "".join(parts) + f"bucket-{group[1]}"
+
+
+def escaped(value):
+    """The text of a partition's value in a folder's name."""
+    return "".join(chr(b) if re.match(rb"[A-Za-z0-9._-]", bytes([b])) else f"%{b:02X}" for b in folder_text(value))
+
+
+def path_of(schema, file):
+    """The path of a data file or a changelog file."""
+    return f"{folder_of(schema, file['group'])}/{file['name']}"
 
 
 # Data files.
@@ -509,9 +549,12 @@ def table_at(folder, schema, asked, least=0):
     if number > newest:
         raise Refused(f"E12 snapshot {number} latest {newest}")
     view, rows = View(folder, schema, number), []
-    for run in runs(view.live_files()):
-        if run[0]["level"] >= least:
-            rows = [(kind, row) for _, kind, row in view.run_rows(run)] + rows
+    for found in group_runs(schema, view.live_files()).values():
+        of_group = []
+        for run in found:
+            if run[0]["level"] >= least:
+                of_group = [(kind, row) for _, kind, row in view.run_rows(run)] + of_group
+        rows += of_group
     return scanned(schema, rows)
 
 
@@ -549,7 +592,7 @@ class View:
         live = {}
         for path in [f"manifest/{meta['_FILE_NAME']}" for meta in self.metas]:
             for adds, file in read_manifest(path, self.schema, self.read(path)):
-                known = file["name"], file["level"]
+                known = id_of(file)
                 if adds == (known in live):
                     raise damaged(path)
                 live[known] = file
@@ -565,7 +608,7 @@ class View:
         """The rows of files, by that reader."""
         rows = []
         for file in files:
-            path = f"bucket-0/{file['name']}"
+            path = path_of(self.schema, file)
             data = self.read(path)
             self.judge_schema(file)
             rows += reader.read(path, data)
@@ -578,7 +621,8 @@ class View:
     def changes(self):
         """The rows of the snapshot's changelog, each with its kind."""
         found = [self.rows_of([file], RunReader(self.schema, True)) for file in self.changelog_files()]
-        return [(kind, row) for rows in found for _, kind, row in rows]
+        rows = [(kind, row) for rows in found for _, kind, row in rows]
+        return sorted(rows, key=lambda row: self.schema.key(row[1]))
 
     def changelog_files(self):
         """The files of the snapshot's changelog, in the order of their entries."""
@@ -598,7 +642,8 @@ class Lookup:
 
     def __init__(self, view, found):
         self.view = view
-        self.files = [LookedFile(view, file, view.read(f"bucket-0/{file['name']}")) for run in found for file in run]
+        files = [file for run in found for file in run]
+        self.files = [LookedFile(view, file, view.read(path_of(view.schema, file))) for file in files]
 
     def rows(self, key):
         """The rows that the runs have of a key, those of the oldest first."""
@@ -621,7 +666,7 @@ class LookedFile:
         schema = self.view.schema
         self.view.judge_schema(self.file)
         reader = RunReader(schema)
-        for block in reader.blocks(f"bucket-0/{self.file['name']}", data):
+        for block in reader.blocks(path_of(schema, self.file), data):
             reader.last = None
             yield [schema.key(row) for _, _, row in block[-1:]], {schema.key(row[2]): row for row in block}
 
@@ -637,15 +682,25 @@ class LookedFile:
         return []
 
 
-def runs(live):
-    """Live files as runs, the newest first: each file of level 0, and each level above."""
+def id_of(file):
+    """What a live file is known by."""
+    return file["group"], file["name"], file["level"]
+
+
+def group_runs(schema, live):
+    """The runs of each group that has live files, by rising group."""
+    return {group: runs(schema, files) for group, files in in_groups(schema, live, lambda file: file["group"]).items()}
+
+
+def runs(schema, live):
+    """Live files of a group as runs, the newest first: each file of level 0, and each level above."""
     lowest = [file for file in live if file["level"] == 0]
     found = [[file] for file in sorted(lowest, key=lambda file: (-file["newest"], file["name"].encode()))]
     for level in sorted({file["level"] for file in live} - {0}):
         run = sorted((f for f in live if f["level"] == level), key=lambda file: (file["least"], file["name"].encode()))
         for at, file in enumerate(run):
             if any(share_keys(file, other) for other in run[:at]):
-                raise damaged(f"bucket-0/{file['name']}")
+                raise damaged(path_of(schema, file))
         found.append(run)
     return found
 
@@ -741,7 +796,7 @@ def schema_file(schema, session, time, comment=None):
         "id": 0,
         "options": written_options(schema.options),
         "origin": f"ORIGIN-{session}-0",
-        "partitionKeys": [],
+        "partitionKeys": schema.partition,
         "primaryKeys": schema.primary,
         "timeMillis": time,
         "version": 3,
@@ -749,13 +804,14 @@ def schema_file(schema, session, time, comment=None):
     return print_json(value).encode()
 
 
-def file_of(schema, name, data, run, level):
-    """What an entry tells of a new data file that has the rows of a run."""
+def file_of(schema, group, name, data, run, level):
+    """What an entry tells of a new data file of a group that has the rows of a run."""
     rows = [run[0][2], run[-1][2]]
     kinds = [(key, kind) for key, kind, _ in schema.key_columns()]
     keys = [[stored(kind, row[schema.names.index(key)]) for key, kind in kinds] for row in rows]
-    orders = [tuple(stored_order(value) for value in key) for key in keys]
+    orders = [schema.key(row) for row in rows]
     return {
+        "group": group,
         "name": name,
         "level": level,
         "schema": schema.id,
@@ -787,16 +843,18 @@ def entry(schema, adds, file):
         "_LEVEL": file["level"],
         "_CREATION_TIME": file["time"],
     }
-    own = {"_VERSION": 2, "_KIND": int(not adds), "_PARTITION": binary([], []), "_BUCKET": 0, "_TOTAL_BUCKETS": 1}
-    return own | {"_FILE": record}
+    columns = [kind for _, kind, _ in schema.partition_columns()]
+    partition = binary(columns, [stored(*found) for found in zip(columns, file["group"][0])])
+    own = {"_VERSION": 2, "_KIND": int(not adds), "_PARTITION": partition, "_BUCKET": file["group"][1]}
+    return own | {"_TOTAL_BUCKETS": schema.buckets, "_FILE": record}
 
 
 def manifest_file(entries, marker):
     return written(("record", MANIFEST), entries, marker)
 
 
-def list_file(metas, marker):
-    own = {"_VERSION": 2, "_PARTITION_STATS": no_statistics(0)}
+def list_file(schema, metas, marker):
+    own = {"_VERSION": 2, "_PARTITION_STATS": no_statistics(len(schema.partition))}
     return written(("record", LIST), [own | meta for meta in metas], marker)
 
 

@@ -4,16 +4,15 @@ program: reference_files.py has the folders, and what the files hold.
 """
 
 from reference_compact import first_told
-from reference_files import View, damaged, found_schema, ids, is_integer, newest_of, read_schema, table_at
+from reference_files import View, damaged, ids, is_integer, newest_of, read_schema, table_at
 from reference_table import Refused, print_json, printable, read_json
 
 
 def follow(folder, asked, is_full, show, name=None):
     """Shows what `follow` prints, the table and each frame at once: with the calls for the one before the next."""
-    schema = found_schema(folder)
+    schema = read_schema(folder)
     if schema.producer == "none":
         raise Refused("E19 no changelog none")
-    schema.judge_built()
     own = None if name is None else Consumer(folder, name)
     if own is not None and not own.is_new:
         start = own.next

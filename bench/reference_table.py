@@ -163,9 +163,6 @@ def judge_options(options):
             raise unsupported(key, text)
 
 
-BUILT_PRODUCERS = ["none", "input", "lookup", "full-compaction"]
-
-
 class Schema:
     """A table's columns, key and options."""
 
@@ -197,28 +194,33 @@ class Schema:
     def delimiter(self, name):
         return self.of_columns("list-agg-delimiter").get(name, ",")
 
+    @property
+    def buckets(self):
+        return int(self.options["bucket"])
+
     def key_columns(self):
+        """The columns of the key that aren't the partition's."""
         return [self.columns[self.names.index(name)] for name in self.primary if name not in self.partition]
+
+    def partition_columns(self):
+        return [self.columns[self.names.index(name)] for name in self.partition]
 
     def key(self, row):
         """The key of a row, in the order of keys."""
-        return tuple(order(kind, row[self.names.index(name)]) for name, kind, _ in self.key_columns())
+        return self.key_of({name: row[self.names.index(name)] for name in self.primary})
+
+    def key_of(self, values):
+        """The same of values by column."""
+        kinds = {name: kind for name, kind, _ in self.columns}
+        return tuple(order(kinds[name], values[name]) for name in self.primary)
 
     def judge(self):
-        """Refuses the first fault of a schema that has its form, or that it isn't built yet."""
+        """Refuses the first fault of a schema that has its form."""
         judge_options(self.options)
         judge_pairs(self)
         for number, holds in enumerate(RULES, 1):
             if not holds(self):
                 raise Refused(f"E22 schema rule {number}")
-
-    def judge_built(self):
-        if self.producer not in BUILT_PRODUCERS:
-            raise unsupported("changelog-producer", self.producer)
-        if self.options["bucket"] != "1":
-            raise unsupported("bucket", self.options["bucket"])
-        if self.partition:
-            raise unsupported("partitionKeys", ",".join(self.partition))
 
 
 def judge_pairs(schema):
@@ -372,7 +374,6 @@ def read_draft(data):
     options = {"bucket": "1", "file.format": "avro", **value.get("options", {})}
     schema = Schema(columns, primary, value.get("partitionKeys", []), options)
     schema.judge()
-    schema.judge_built()
     return schema, value.get("comment")
 
 
@@ -437,6 +438,11 @@ def read_row(schema, number, line):
     return value[0], row
 
 
+def folder_text(value):
+    """The text of a printed value of a partition, before it is escaped."""
+    return str(value).lower().encode() if isinstance(value, (bool, int)) else value.encode()
+
+
 def refusing_column(schema, kind):
     """The column because of which the engine refuses a row of a kind; `*` for the row as a whole."""
     if kind in ADDING or schema.engine == "deduplicate":
@@ -464,6 +470,8 @@ def read_batch(schema, data):
         column = refusing_column(schema, kind)
         if column:
             raise Refused(f"E7 retraction line {number} column {column}")
+        if any(len(folder_text(row[schema.names.index(name)])) > 60 for name in schema.partition):
+            raise Refused("E21 limit partition 60")
         rows.append((kind, row))
     return rows
 
