@@ -16,7 +16,7 @@ import time
 
 import reference_files
 from reference_commands import Table, changes, leave_out
-from reference_table import BUILT_PRODUCERS, KINDS, TYPES, Refused
+from reference_table import KINDS, TYPES, Refused
 from trials import DRAFT, Tally, fault_of, knows, random_of, read_arguments, run, tree, work_folder
 
 SESSION = "[0-9a-f]{8}(?:-[0-9a-f]{4}){3}-[0-9a-f]{12}"
@@ -82,10 +82,10 @@ def draw_draft(random):
     """A draft that is mostly good, as a value."""
     names = random.sample(["id", "k", "v", "w", "x_1", "_y", "Z", "g", "h"], random.randint(2, 6))
     fields = [{"name": name, "type": draw_type(random)} for name in names]
-    primary = random.sample(names, 1 if maybe(random, 0.7) else 2)
+    primary = random.sample(names, min(len(names), random.choice([1, 1, 2, 2, 3])))
     engine = random.choice(ENGINES)
     options = {} if engine == "deduplicate" else {"merge-engine": engine}
-    producers = [producer for producer in PRODUCERS[engine] if producer in BUILT_PRODUCERS]
+    producers = PRODUCERS[engine]
     if producers and maybe(random, 0.6):
         options["changelog-producer"] = random.choice(producers)
     if maybe(random, 0.2):
@@ -104,9 +104,13 @@ def draw_draft(random):
     if maybe(random, 0.5):
         options["manifest.merge-min-count"] = random.choice(["2", "3", "4"])
     options |= {key: random.choice(texts) for key, texts in SIZES.items() if maybe(random, 0.3)}
+    if maybe(random, 0.4):
+        options["bucket"] = random.choice(["1", "2", "3", "4", "7", "256"])
     if maybe(random, 0.3):
         options["num-levels"] = str(int(options.get("num-sorted-run.compaction-trigger", "5")) + random.randint(1, 2))
     draft = {"fields": fields, "primaryKeys": primary, "options": options}
+    if len(primary) > 1 and maybe(random, 0.6):
+        draft["partitionKeys"] = random.sample(primary, random.randint(1, len(primary) - 1))
     if maybe(random, 0.2):
         draft["comment"] = random.choice(TEXTS)
     return draft
@@ -310,12 +314,6 @@ class Trial:
             self.tally.breaks(f"table {self.folder.name}", "the files are worth another table")
 
 
-def makes(program, folder, producer):
-    """Whether the program makes tables of a producer."""
-    draft = DRAFT[:-1] + b',"options":{"changelog-producer":"%s"}}' % producer.encode()
-    return run([program, folder, "create"], draft).status == 0
-
-
 def main():
     found = read_arguments(__doc__, 1000)
     tally = Tally()
@@ -323,8 +321,6 @@ def main():
         for words in WORDS:
             if not knows(found.program, work, *words, *["c"][: len(words) - 1]):
                 leave_out(*words)
-        for producer in [known for known in BUILT_PRODUCERS if not makes(found.program, work / known, known)]:
-            BUILT_PRODUCERS.remove(producer)
         for number in range(found.count):
             Trial(tally, found.program, work / str(number), random_of(found.seed, number)).run()
             tally.add("tables")
