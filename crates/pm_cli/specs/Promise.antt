@@ -40,7 +40,7 @@ use Rattle.pm_command_compact.specs.Compact.{HasChoice}
 use Rattle.pm_command_consume.specs.Alone.{settled_at, start_after}
 use Rattle.pm_command_consumers.specs.Drop.{ItEnds, WasThere, told_text}
 use Rattle.pm_command_create.specs.Create.{IsDraftOf}
-use Rattle.pm_command_expire.specs.Expire.{IsImage, IsLeftBy, OfBuilt, asked_by, kept_text}
+use Rattle.pm_command_expire.specs.Expire.{IsImage, IsLeftBy, OfTable, asked_by, kept_text}
 use Rattle.pm_command_follow.specs.Follow.{MayStartAt, TellsChanges}
 use Rattle.pm_command_follow.specs.Printed.{follow_text}
 use Rattle.pm_command_write.specs.Write.{entry_by, identifier_of, writer_of}
@@ -130,7 +130,7 @@ HasMade e h (Some other) later = (later ≡ h) × LeavesOut e.command (found_by 
 -- An expiry changes the file at a path: it takes it with snapshots that go, or makes the floor that tells their end.
 abbrev pub ExpiresAt : Command → Start → History → Files → Files → List ℕ → Type 0
 ExpiresAt (commands.Expire min max millis) start h was f path =
-    OfBuilt h (λ s. ChangesAt (asked_by start (keep_asked min max millis) s) was f path)
+    OfTable h (λ s. ChangesAt (asked_by start (keep_asked min max millis) s) was f path)
 ExpiresAt other start h was f path = ⊥
 
 -- The file at a path is as it was at first; or it appeared, and the command may make it; or it has gone, and the

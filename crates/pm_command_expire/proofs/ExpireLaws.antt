@@ -18,7 +18,9 @@ use Rattle.pm_machine.specs.Trace.{Ended, Event, HasTrace, Traces}
 use Rattle.pm_machine.proofs.AloneLaws.{Traces-first, Traces-goes_on, Traces-later}
 use Rattle.pm_model_history.specs.History as histories
 use Rattle.pm_model_history.specs.History.{History, IsTableOf, no_table, table}
+use Rattle.pm_schema.specs.Again.{IsDeclared}
 use Rattle.pm_schema.specs.declared.schema.TableSchema.{TableSchema}
+use Rattle.pm_partitions.proofs.Plain.{plain_names}
 use Rattle.pm_snapshot.specs.Names.{greatest, snapshot_name}
 use Rattle.pm_model_folder.specs.Changes.{Actor, HavePlainNames, IsNamedBy, IsPlain, IsSnapshotPath}
 use Rattle.pm_model_folder.specs.Commits.{Names}
@@ -43,11 +45,10 @@ use Rattle.pm_expire.specs.AllCalls as expiry
 use Rattle.pm_expire.specs.AllCalls.{ChangesAt, ExpiresFiles, IsGivenBack, IsImageOf, IsRefusedFor, StopsAtTag, its_file, its_floor, its_snapshot}
 use Rattle.pm_expire.specs.Beside.{ExpiresAlone, ExpiresBeside}
 use Rattle.pm_expire.specs.declared.all_calls.Kept.{Kept}
-use Rattle.pm_draft.specs.Built.{IsBuilt, unbuilt}
 use Rattle.pm_command.specs.Outside.{Outside, Prints}
-use Rattle.pm_command.specs.Table.{EndsAtSchema, MayRefuse}
+use Rattle.pm_command.specs.Table.{MayRefuse}
 use Rattle.pm_command.specs.declared.start.Start.{Start}
-use Rattle.pm_command.proofs.TableLemmas.{caused, consumers_stay, files_of, files_same, images_of, judged_caused, leaves_of, leaves_weaker, trace_weaker}
+use Rattle.pm_command.proofs.TableLemmas.{caused, consumers_stay, files_of, files_same, images_of, leaves_of, leaves_weaker, trace_weaker}
 use Rattle.pm_command_expire.specs.Expire.{AnswersExpire, AnswersHistory, DidExpire, ExpiresTables, HasKept, IsImage, IsRefused, IsSpoiled, IsTableExpired, Keeps, KeepsHistories, MadeBeside, MakesOf, asked_by, text_of}
 
 -- ---- its calls
@@ -56,17 +57,12 @@ module _ (start : Start) (asked : KeepAsked) where
   pub read_refused : (e : Refusal) (before after : StoreView) → HasTrace (DidRead (Err e)) before after → HasTrace (DidExpire start asked (Err e)) before after
   read_refused e before after = trace_weaker (DidRead (Err e)) (DidExpire start asked (Err e)) (λ own shows. inl shows) before after
 
-  -- the schema isn't built, or memory ran out for saying so
-  pub judge_refused : (s : TableSchema) (e : Refusal) (before after : StoreView) → (e ≡ refusals.Memory) ⊎ (unbuilt s ≡ Some e)
-      → HasTrace (DidRead (Ok s)) before after → HasTrace (DidExpire start asked (Err e)) before after
-  judge_refused s e before after why = trace_weaker (DidRead (Ok s)) (DidExpire start asked (Err e)) (λ own has. inr (inl (s, why, has))) before after
-
-  pub expired_trace : (s : TableSchema) (made : Result Kept Refusal) (before after : StoreView) → IsBuilt s
+  pub expired_trace : (s : TableSchema) (made : Result Kept Refusal) (before after : StoreView) → IsDeclared s
       → HasTrace (expiry.DidExpire (asked_by start asked s) made) before after → HasTrace (DidExpire start asked made) before after
-  expired_trace s (Ok kept) before after built =
-      trace_weaker (expiry.DidExpire (asked_by start asked s) (Ok kept)) (DidExpire start asked (Ok kept)) (λ own did. (s, built, did)) before after
-  expired_trace s (Err e) before after built =
-      trace_weaker (expiry.DidExpire (asked_by start asked s) (Err e)) (DidExpire start asked (Err e)) (λ own did. inr (inr (s, built, did))) before after
+  expired_trace s (Ok kept) before after declared =
+      trace_weaker (expiry.DidExpire (asked_by start asked s) (Ok kept)) (DidExpire start asked (Ok kept)) (λ own did. (s, declared, did)) before after
+  expired_trace s (Err e) before after declared =
+      trace_weaker (expiry.DidExpire (asked_by start asked s) (Err e)) (DidExpire start asked (Err e)) (λ own did. inr (s, declared, did)) before after
 
 -- what is asked, with what is to be kept by the options of the table
 pub asked_is : (start : Start) (asked : KeepAsked) (s : TableSchema) (keep : Keep) (now : ℤ) → keep ≡ keep_of asked s.options → now ≡ start.now_millis
@@ -77,17 +73,12 @@ asked_is start asked s keep now is at = ap₂ (λ (keep : Keep) (now : ℤ). rec
 
 pub read_beside : (e : Refusal) (before after : StoreView) → HasTrace (DidRead (Err e)) before after → Learns AnyPast (IsTold e) before after
     → MadeBeside (Err e) before after
-read_beside e before after did told = inr (inl (did, told))
-
-pub judge_beside : (s : TableSchema) (e : Refusal) (before after : StoreView) → (e ≡ refusals.Memory) ⊎ (unbuilt s ≡ Some e)
-    → HasTrace (DidRead (Ok s)) before after → MadeBeside (Err e) before after
-judge_beside s e before after why did =
-    inl (trace_weaker (DidRead (Ok s)) (EndsAtSchema e) (λ own has. (s, why, has)) before after did)
+read_beside e before after did told = inl (did, told)
 
 pub expired_beside : (s : TableSchema) (made : Result Kept Refusal) (before middle after : StoreView) → Learns AnyPast (λ f p. IsTableOf s p.history) before middle
     → ((me : Actor) → ExpiresBeside me s made middle after) → MadeBeside made before after
 expired_beside s (Ok kept) before middle after learned expires = (s, middle, learned, expires)
-expired_beside s (Err e) before middle after learned expires = inr (inr (s, middle, learned, expires))
+expired_beside s (Err e) before middle after learned expires = inr (s, middle, learned, expires)
 
 -- whatever came stays before it
 pub expired_goes_on : (me : Actor) (s : TableSchema) (made : Result Kept Refusal) (middle after : StoreView) → ExpiresBeside me s made middle after → GoesOn middle after
@@ -126,9 +117,6 @@ count-within : (f : Files) (h : History) → Folder f h → count_of h ≤ great
 count-within f no_table folder = omega arith
 count-within f (table s entries) folder = folder.snapshots.within
 
-plain_names : (s : TableSchema) → IsBuilt s → HavePlainNames s
-plain_names s built = subst (AllByRecursion IsPlain) (sym built.partition) tt
-
 -- ---- no consumer's file goes
 
 no_snapshot : (s : TableSchema) (id : ℕ) (name : List ℕ) → IsSnapshotPath s id (consumer_path name) → ⊥
@@ -150,7 +138,7 @@ module _ (start : Start) (asked : KeepAsked) where
   same_spoiled : (h : History) (first after : StoreView) (e : Refusal) (f : Files) → MayRefuse h first after e → IsSpoiled start asked h e f f
   same_spoiled h first after refusals.Memory f may = inl (λ path. refl)
   same_spoiled h first after (refusals.StoreFault path) f may = inl (λ path. refl)
-  same_spoiled h first after (refusals.Unsupported what text) f may = inl (may, λ path. refl)
+  same_spoiled h first after (refusals.Unsupported what text) f may = absurd may
   same_spoiled h first after e f may = λ path. refl
 
   may_refused : (h : History) (first after : StoreView) (e : Refusal) → MayRefuse h first after e → IsRefused h first after e
@@ -180,14 +168,6 @@ module _ (start : Start) (asked : KeepAsked) where
       let at = files_of (λ f. Folder f h) first stands in
       let read = reads alone at.0 h at.1 at.2 in
       stay_keeps h at.0 first after e at.1 at.2 read.files (caused h first after e read.cause)
-
-  pub judge_keeps : (s : TableSchema) (e : Refusal) (before after : StoreView) → (e ≡ refusals.Memory) ⊎ (unbuilt s ≡ Some e)
-      → ReadsTables before after (Ok s) → KeepsHistories start asked before after (Err e)
-  judge_keeps s e before after why reads = λ alone h stands.
-      let first = at_first_own before after in
-      let at = files_of (λ f. Folder f h) first stands in
-      let read = reads alone at.0 h at.1 at.2 in
-      stay_keeps h at.0 first after e at.1 at.2 read.files (judged_caused h first after s e read.schema why)
 
 -- ---- an expiry
 
@@ -234,7 +214,7 @@ read_then s f h before middle after alone has folder (own, did, trace) reads goe
     let read = reads (subst (λ (moment : StoreView). IsAlone moment middle) (sym same) parts.0) f h (subst (HasFiles f) (sym same) has) folder in
     record { schema = read.schema; stay = subst (λ (moment : StoreView). Stay f moment middle) same read.files; alone = parts.1 }
 
-module _ (laws : Laws) (start : Start) (asked : KeepAsked) (s : TableSchema) (built : IsBuilt s) (asking : IsAsking (asked_by start asked s)) where
+module _ (laws : Laws) (start : Start) (asked : KeepAsked) (s : TableSchema) (declared : IsDeclared s) (asking : IsAsking (asked_by start asked s)) where
   abbrev a : Asking
   a = asked_by start asked s
 
@@ -249,14 +229,14 @@ module _ (laws : Laws) (start : Start) (asked : KeepAsked) (s : TableSchema) (bu
     p = found.0
 
     as_image : (g : Files) → IsImageOf a f g → IsImage start asked h f g
-    as_image g image = inr (s, is, built, image)
+    as_image g image = inr (s, is, declared, image)
 
     keeps_consumers : (g : Files) → Stands g p → IsImageOf a f g → KeepsConsumers h f g
     keeps_consumers g stands image =
         known-keep h f g p stands (subst (histories.GoesOn h) (sym found.1) (goes-itself h)) (record {
           files = λ name. elim (laws.image a f g (consumer_path name) image) as (λ _. map.get g (consumer_path name) ≡ map.get f (consumer_path name)) [
             | inl same ↦ same
-            | inr changes ↦ absurd (none_changed a f g name (plain_names s built) changes)
+            | inr changes ↦ absurd (none_changed a f g name (plain_names s declared) changes)
           ];
           known = found.5.known;
         })
@@ -288,16 +268,16 @@ module _ (laws : Laws) (start : Start) (asked : KeepAsked) (s : TableSchema) (bu
     spoiled (refusals.StoreFault path) first after cause images =
         leaves_weaker (IsImageOf a f) (IsSpoiled start asked h (refusals.StoreFault path) f) as_image after images
     spoiled (refusals.Unsupported what text) first after (tag, stops) images =
-        leaves_weaker (StopsAtTag a f text) (IsSpoiled start asked h (refusals.Unsupported what text) f) (λ g at. inr (tag, (s, is, built, at))) after stops
+        leaves_weaker (StopsAtTag a f text) (IsSpoiled start asked h (refusals.Unsupported what text) f) (λ g at. (tag, (s, is, declared, at))) after stops
     spoiled e first after cause images = absurd cause
 
     made_of : (made : Result Kept Refusal) (own : List Event) (first after : StoreView) → HasFiles f first → Traces own first after → IsAlone first after
         → expiry.DidExpire a made own → ExpiresFiles a f h first after made → MakesOf start asked h first after made
     made_of (Ok kept) own first after has trace alone did files =
         leaves_of (λ f. LeavesFiles (HasKept start asked h kept f) after) f first has
-        (leaves_weaker (expiry.Leaves a (count_of h) f (Ok kept)) (HasKept start asked h kept f) (λ g becomes. (s, is, built, becomes)) after files.leaves)
+        (leaves_weaker (expiry.Leaves a (count_of h) f (Ok kept)) (HasKept start asked h kept f) (λ g becomes. (s, is, declared, becomes)) after files.leaves)
     made_of (Err e) own first after has trace alone did files =
-        let cause = laws.causes a e own first after f h asking (plain_names s built) did trace alone has folder in (
+        let cause = laws.causes a e own first after f h asking (plain_names s declared) did trace alone has folder in (
           refused e first after cause,
           leaves_of (λ f. LeavesFiles (IsSpoiled start asked h e f) after) f first has (spoiled e first after cause files.leaves),
         )
@@ -328,7 +308,7 @@ module _ (laws : Laws) (start : Start) (asked : KeepAsked) (s : TableSchema) (bu
       let at = files_of (λ f. Folder f h) first stands in
       let read = read_then s at.0 h before middle after alone at.1 at.2 did reads goes late in
       let traced = Traces-first own before after trace in
-      let files = laws.all a made own first after at.0 h asking (plain_names s built) does traced alone at.1 at.2 in
+      let files = laws.all a made own first after at.0 h asking (plain_names s declared) does traced alone at.1 at.2 in
       let past = laws.settled at.0 h at.2 in
       let p = past.0 in
       let left = expires read.alone p (subst (IsTableOf s) (sym past.1) read.schema) (leaves_of (λ f. Stands f p) at.0 middle read.stay.here past.2) in

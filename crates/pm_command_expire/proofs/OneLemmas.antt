@@ -1,14 +1,13 @@
 -- The calls of `expire` show one answer, but that memory may run out: those that read the schema end at one place, and
 -- from there on those of an expiry do.
-use Rattle.std.proofs.Common.{◌≡◌, ◌⊎◌, inl, inr, ℕ, List, [], ◌∷◌, ◌++◌, Option, None, Some, option_map, Result, Ok, Err, refl, sym, ap, subst, ◌∙◌, append-nil, append_assoc}
+use Rattle.std.proofs.Common.{◌≡◌, ◌⊎◌, inl, inr, ℕ, List, [], ◌∷◌, ◌++◌, Option, None, Some, Result, Ok, Err, refl, sym, ap, subst, ◌∙◌, append-nil, append_assoc}
 use Rattle.pm_values.specs.declared.refusal.Refusal.{Refusal}
 use Rattle.pm_values.specs.declared.refusal.Refusal.TheVariants as refusals
 use Rattle.pm_store.specs.declared.call.Call.{Call}
 use Rattle.pm_machine.specs.Step.{path_of}
 use Rattle.pm_machine.specs.Trace.{Event, IsFailed, faulted}
+use Rattle.pm_schema.specs.Again.{IsDeclared}
 use Rattle.pm_schema.specs.declared.schema.TableSchema.{TableSchema}
-use Rattle.pm_draft.specs.Built.{IsBuilt, unbuilt}
-use Rattle.pm_draft.proofs.BuiltLemmas.{built-none}
 use Rattle.pm_read_schema.specs.Reader.{next_call}
 use Rattle.pm_read_schema.specs.Trace as reader
 use Rattle.pm_read_schema.specs.Trace.{DidSoFar, listed_schemas, listed_snapshots, read_schema}
@@ -130,10 +129,9 @@ AreOneAnswer one other = (one ≡ other) ⊎ ((one ≡ Err refusals.Memory) ⊎ 
 abbrev refused : Refusal → Result Kept Refusal
 refused e = Err e
 
--- what is answered where the schema was read, if no expiry follows
+-- what is answered where no schema was read
 abbrev answer_at : schema.Place → Option (Result Kept Refusal)
 answer_at (schema.over e) = Some (refused e)
-answer_at (schema.ready s) = option_map refused (unbuilt s)
 answer_at m = None
 
 one_some : (one other : Result Kept Refusal) → ◌≡◌ {A = Option (Result Kept Refusal)} (Some one) (Some other) → one ≡ other
@@ -147,7 +145,7 @@ module _ (start : Start) (asked : KeepAsked) where
     of_memory : made ≡ refused refusals.Memory → IsShown made own
     of_failure : (e : Refusal) → made ≡ refused e → Fails e own → reader.Shows e own → IsShown made own
     of_schema : (m : schema.Place) → Leads schema.Goes own schema.listing m → schema.IsEnd m → answer_at m ≡ Some made → IsShown made own
-    of_expiry : (s : TableSchema) → IsBuilt s → expiry.DidExpire (asked_by start asked s) made own → IsShown made own
+    of_expiry : (s : TableSchema) → IsDeclared s → expiry.DidExpire (asked_by start asked s) made own → IsShown made own
 
   by_reader : (e : Refusal) (own : List Event) → reader.Shows e own → schema.IsShown e own → IsShown (refused e) own
   by_reader e own shows (schema.of_memory memory) = of_memory (ap refused memory)
@@ -155,11 +153,9 @@ module _ (start : Start) (asked : KeepAsked) where
   by_reader e own shows (schema.of_place lead) = of_schema (schema.over e) lead tt refl
 
   is_shown : (made : Result Kept Refusal) (own : List Event) → DidExpire start asked made own → IsShown made own
-  is_shown (Ok kept) own (s, built, did) = of_expiry s built did
+  is_shown (Ok kept) own (s, declared, did) = of_expiry s declared did
   is_shown (Err e) own (inl shows) = by_reader e own shows (schema.is_shown e own shows)
-  is_shown (Err e) own (inr (inl (s, inl memory, did))) = of_memory (ap refused memory)
-  is_shown (Err e) own (inr (inl (s, inr why, did))) = of_schema (schema.ready s) (schema.ready_lead s own did) tt (ap (option_map refused) why)
-  is_shown (Err e) own (inr (inr (s, built, did))) = of_expiry s built did
+  is_shown (Err e) own (inr (s, declared, did)) = of_expiry s declared did
 
   failed_first : (e : Refusal) (own : List Event) (made other : Result Kept Refusal) (s : TableSchema) → made ≡ refused e → reader.Shows e own
       → expiry.DidExpire (asked_by start asked s) other own → made ≡ refused refusals.Memory
@@ -167,12 +163,12 @@ module _ (start : Start) (asked : KeepAsked) where
 
   -- no expiry follows where something is answered of the schema
   schema_not : (m : schema.Place) (own : List Event) (made other : Result Kept Refusal) (s : TableSchema) → Leads schema.Goes own schema.listing m → schema.IsEnd m
-      → answer_at m ≡ Some made → IsBuilt s → expiry.DidExpire (asked_by start asked s) other own → ⊥
-  schema_not m own made other s lead ends answer built did =
+      → answer_at m ≡ Some made → expiry.DidExpire (asked_by start asked s) other own → ⊥
+  schema_not m own made other s lead ends answer did =
       let (earlier, later, has, at) = did_from (asked_by start asked s) other own did in
       let end = one_end schema.Goes schema.IsEnd schema.are_one schema.ends_stay earlier own later [] schema.listing (schema.ready s) m
       (sym at ∙ sym (append-nil own)) (schema.ready_lead s earlier has) tt lead ends in
-      none_some made (sym (ap (option_map refused) (built-none s built)) ∙ ap answer_at end.1 ∙ answer)
+      none_some made (ap answer_at end.1 ∙ answer)
 
   one_expiry : OneExpiry → (own : List Event) (one other : Result Kept Refusal) (s t : TableSchema) → expiry.DidExpire (asked_by start asked s) one own
       → expiry.DidExpire (asked_by start asked t) other own → AreOneAnswer one other
@@ -189,14 +185,14 @@ module _ (start : Start) (asked : KeepAsked) where
   one_shown law own one other is (of_memory memory) = inr (inr memory)
   one_shown law own one other (of_failure e is fails shows) (of_failure d was failed denies) = inl (is ∙ ap refused (one_failed e d own fails failed) ∙ sym was)
   one_shown law own one other (of_failure e is fails shows) (of_schema m lead ends answer) = absurd (failed_not e own fails (schema.leads_answered own m lead))
-  one_shown law own one other (of_failure e is fails shows) (of_expiry s built did) = inr (inl (failed_first e own one other s is shows did))
+  one_shown law own one other (of_failure e is fails shows) (of_expiry s declared did) = inr (inl (failed_first e own one other s is shows did))
   one_shown law own one other (of_schema m lead ends answer) (of_failure d was failed denies) = absurd (failed_not d own failed (schema.leads_answered own m lead))
   one_shown law own one other (of_schema m lead ends answer) (of_schema n led_there stops also) =
       inl (one_some one other (sym answer ∙ ap answer_at (one_lead schema.Goes schema.are_one own schema.listing m n lead led_there) ∙ also))
-  one_shown law own one other (of_schema m lead ends answer) (of_expiry s built did) = absurd (schema_not m own one other s lead ends answer built did)
-  one_shown law own one other (of_expiry s built did) (of_failure d was failed denies) = inr (inr (failed_first d own other one s was denies did))
-  one_shown law own one other (of_expiry s built did) (of_schema m lead ends answer) = absurd (schema_not m own other one s lead ends answer built did)
-  one_shown law own one other (of_expiry s built did) (of_expiry t also does) = one_expiry law own one other s t did does
+  one_shown law own one other (of_schema m lead ends answer) (of_expiry s declared did) = absurd (schema_not m own one other s lead ends answer did)
+  one_shown law own one other (of_expiry s declared did) (of_failure d was failed denies) = inr (inr (failed_first d own other one s was denies did))
+  one_shown law own one other (of_expiry s declared did) (of_schema m lead ends answer) = absurd (schema_not m own other one s lead ends answer did)
+  one_shown law own one other (of_expiry s declared did) (of_expiry t also does) = one_expiry law own one other s t did does
 
 pub one_answer : OneExpiry → (start : Start) (asked : KeepAsked) (one other : Result Kept Refusal) (own : List Event) → DidExpire start asked one own
     → DidExpire start asked other own → (one ≡ other) ⊎ ((one ≡ Err refusals.Memory) ⊎ (other ≡ Err refusals.Memory))

@@ -11,6 +11,7 @@ use Rattle.pm_store.specs.Images.{Extends}
 use Rattle.pm_store.specs.Store.{StoreView, FromFirst}
 use Rattle.pm_machine.specs.Trace.{Event, HasTrace}
 use Rattle.pm_model_history.specs.History.{History, IsTableOf}
+use Rattle.pm_schema.specs.Again.{IsDeclared}
 use Rattle.pm_schema.specs.declared.schema.TableSchema.{TableSchema}
 use Rattle.pm_model_folder.specs.Changes.{Actor}
 use Rattle.pm_model_folder.specs.Folder.{Folder}
@@ -26,9 +27,8 @@ use Rattle.pm_expire.specs.AllCalls as expiry
 use Rattle.pm_expire.specs.AllCalls.{Becomes, IsImageOf, StopsAtTag}
 use Rattle.pm_expire.specs.Beside.{ExpiresBeside}
 use Rattle.pm_expire.specs.declared.all_calls.Kept.{Kept}
-use Rattle.pm_draft.specs.Built.{IsBuilt, unbuilt}
 use Rattle.pm_command.specs.Outside.{ConsumersRest, HaveSame, Outside, Prints}
-use Rattle.pm_command.specs.Table.{EndsAtSchema, MayRefuse}
+use Rattle.pm_command.specs.Table.{MayRefuse}
 use Rattle.pm_command.specs.declared.start.Start.{Start}
 
 -- ---- its calls
@@ -38,16 +38,15 @@ use Rattle.pm_command.specs.declared.start.Start.{Start}
 abbrev pub asked_by : Start → KeepAsked → TableSchema → Asking
 asked_by start asked s = record { schema = s; keep = keep_of asked s.options; now = start.now_millis }
 
--- the schema is built, and the calls from those that read it on are those of an expiry with this answer
+-- the calls from those that read the schema on are those of an expiry with this answer
 abbrev pub GoesOnAs : Start → KeepAsked → Result Kept Refusal → List Event → Type 0
 GoesOnAs start asked made own =
-    (s : TableSchema) × IsBuilt s × expiry.DidExpire (asked_by start asked s) made own
+    (s : TableSchema) × IsDeclared s × expiry.DidExpire (asked_by start asked s) made own
 
--- Its calls of the store, by which snapshots are kept; or they show why no schema was read, or end with the schema, or
--- later.
+-- its calls of the store, by which snapshots are kept; or they show why no schema was read, or end later
 abbrev pub DidExpire : Start → KeepAsked → Result Kept Refusal → List Event → Type 0
 DidExpire start asked (Ok kept) own = GoesOnAs start asked (Ok kept) own
-DidExpire start asked (Err e) own = reader.Shows e own ⊎ (EndsAtSchema e own ⊎ GoesOnAs start asked (Err e) own)
+DidExpire start asked (Err e) own = reader.Shows e own ⊎ GoesOnAs start asked (Err e) own
 
 -- Whatever others do, to each past that has the table whose schema was read its calls bring what those of an expiry
 -- may, whoever makes them, and what its answer tells.
@@ -56,13 +55,12 @@ GoesOnBeside made before after = (s : TableSchema) × (middle : StoreView)
     × Learns AnyPast (λ f p. IsTableOf s p.history) before middle
     × ((me : Actor) → ExpiresBeside me s made middle after)
 
--- or they end with the schema, which isn't built, or before it was read, and the refusal tells what is so
+-- or they end before it was read, and the refusal tells what is so
 abbrev pub MadeBeside : Result Kept Refusal → StoreView → StoreView → Type 0
 MadeBeside (Ok kept) before after = GoesOnBeside (Ok kept) before after
 MadeBeside (Err e) before after =
-    HasTrace (EndsAtSchema e) before after
-    ⊎ ((HasTrace (reader.Shows e) before after × Learns AnyPast (IsTold e) before after)
-    ⊎ GoesOnBeside (Err e) before after)
+    (HasTrace (reader.Shows e) before after × Learns AnyPast (IsTold e) before after)
+    ⊎ GoesOnBeside (Err e) before after
 
 -- ---- what it prints
 
@@ -83,39 +81,35 @@ AnswersExpire start asked before after answer =
 
 -- ---- a history that stands at its first call, where nobody else acts from then on
 
--- the history's table is built, and of its schema this holds
-abbrev pub OfBuilt : History → (TableSchema → Type 0) → Type 0
-OfBuilt h P = (s : TableSchema) × IsTableOf s h × IsBuilt s × P s
+-- the history has a table, and of its schema this holds
+abbrev pub OfTable : History → (TableSchema → Type 0) → Type 0
+OfTable h P = (s : TableSchema) × IsTableOf s h × IsDeclared s × P s
 
 -- what becomes of files that stand for the history, by what is kept
 abbrev pub HasKept : Start → KeepAsked → History → Kept → Files → Files → Type 0
-HasKept start asked h kept f g = OfBuilt h (λ s.
+HasKept start asked h kept f g = OfTable h (λ s.
     Becomes (asked_by start asked s) (count_of h) f g kept.first kept.last)
 
 -- what a crash may leave of them: what an expiry may that was stopped, or no path with another content
 abbrev pub IsImage : Start → KeepAsked → History → Files → Files → Type 0
 IsImage start asked h f g =
-    HaveSame f g ⊎ OfBuilt h (λ s. IsImageOf (asked_by start asked s) f g)
+    HaveSame f g ⊎ OfTable h (λ s. IsImageOf (asked_by start asked s) f g)
 
 -- a tag is there, of which the refusal names the least: no path changes, but that the floor of the end is there
 abbrev pub StopsForTag : Start → KeepAsked → History → List ℕ → List ℕ → Files → Files → Type 0
 StopsForTag start asked h what text f g =
-    (what ≡ codes "tag") × OfBuilt h (λ s. StopsAtTag (asked_by start asked s) f text g)
+    (what ≡ codes "tag") × OfTable h (λ s. StopsAtTag (asked_by start asked s) f text g)
 
--- the history's table isn't built, for which it is refused
-abbrev pub IsUnbuilt : History → Refusal → Type 0
-IsUnbuilt h e = (s : TableSchema) × IsTableOf s h × (unbuilt s ≡ Some e)
-
--- What a refusal leaves of them: what a crash may, where memory ran out or the store failed; the same, where the table
--- isn't built; or what it leaves for a tag; and else the same.
+-- What a refusal leaves of them: what a crash may, where memory ran out or the store failed; what it leaves for a tag;
+-- and else the same.
 abbrev pub IsSpoiled : Start → KeepAsked → History → Refusal → Files → Files → Type 0
 IsSpoiled start asked h refusals.Memory f g = IsImage start asked h f g
 IsSpoiled start asked h (refusals.StoreFault path) f g = IsImage start asked h f g
 IsSpoiled start asked h (refusals.Unsupported what text) f g =
-    (IsUnbuilt h (refusals.Unsupported what text) × HaveSame f g) ⊎ StopsForTag start asked h what text f g
+    StopsForTag start asked h what text f g
 IsSpoiled start asked h other f g = HaveSame f g
 
--- why it is refused; of what isn't built that is said with what it leaves
+-- why it is refused; of a tag that is said with what it leaves
 abbrev pub IsRefused : History → StoreView → StoreView → Refusal → Type 0
 IsRefused h first after (refusals.Unsupported what text) = Unit {0}
 IsRefused h first after other = MayRefuse h first after other

@@ -9,7 +9,7 @@ ghost use Rattle.pm_command.specs.Outside.{Prints};
 ghost use Rattle.pm_command_expire.specs.Expire.{kept_text, DidExpire, IsTableExpired, KeepsHistories, MadeBeside};
 
 use itoa::Buffer;
-use pm_command::{Start, judge, print};
+use pm_command::{Start, print};
 use pm_expire::{Kept, all_calls_law, alone_causes_law, expire_table, image_law};
 use pm_expire_end::{KeepAsked, asked_law};
 use pm_io::{LineBuffer, Sink};
@@ -35,12 +35,12 @@ pub fn run_expire<W: Sink, F: FileStore>(
     ensures out_later { SinkLater (W.seen out.old) (W.seen out.new) }
     ensures store_later { IsLater (F.seen store.old) (F.seen store.new) }
 {
-    let kept = expire_built(alloc, asked, store, start)?;
+    let kept = read_expire(alloc, asked, store, start)?;
     print_kept(out, kept)
 }
 
-/// Expires a table that is built.
-fn expire_built<F: FileStore>(
+/// Reads the schema of a table, and expires it.
+fn read_expire<F: FileStore>(
     alloc: Global,
     asked: KeepAsked,
     store: &mut F,
@@ -53,7 +53,6 @@ fn expire_built<F: FileStore>(
     ensures later { IsLater (F.seen store.old) (F.seen store.new) }
 {
     let schema = read_table_schema(alloc, store)?;
-    judge(alloc, &schema)?;
     all_calls_law();
     alone_causes_law();
     asked_law();

@@ -2,13 +2,14 @@ use Rattle.std.proofs.Common.{SFits, rules, subst, w64}
 use Rattle.std.proofs.Math.Facts.{to_z-of_z}
 use Rattle.std.proofs.lemmas.Result.{err_from_is_err_and}
 use Rattle.pm_machine.specs.Trace.{HasTrace}
+use Rattle.pm_partitions.proofs.Plain.{plain_names}
 use Rattle.pm_read_expiry.specs.declared.asking.Asking.{Asking}
 use Rattle.pm_read_expiry.specs.Found.{IsAsking}
 use Rattle.pm_expire.specs.AllCalls.{DidExpire}
 use Rattle.pm_command.specs.Outside.{actor}
 use Rattle.pm_command_expire.specs.Expire.{asked_by}
-use Rattle.pm_command_expire.proofs.ExpireLaws.{Laws, asked_is, expired_beside, expired_goes_on, expired_keeps, expired_trace, judge_beside, judge_keeps, judge_refused, read_beside, read_keeps, read_refused}
-use Rattle.pm_command_expire.proofs.expire.expire_built.Goals as goal
+use Rattle.pm_command_expire.proofs.ExpireLaws.{Laws, asked_is, expired_beside, expired_goes_on, expired_keeps, expired_trace, read_beside, read_keeps, read_refused}
+use Rattle.pm_command_expire.proofs.expire.read_expire.Goals as goal
 
 pub returns-in_err-schema-clause-trace : goal.returns-in_err-schema-clause-trace
 returns-in_err-schema-clause-trace g c =
@@ -31,34 +32,13 @@ returns-in_err-schema-clause-history g c =
     (read_keeps c.args.start.now c.args.asked c.in_err-schema.field-0.0 (g.F.FileStore.seen c.args.store.now) (g.F.FileStore.seen c.read_table_schema.new.store)
     c.in_err-schema.ensures.history)
 
-pub returns-in_err-judge-clause-trace : goal.returns-in_err-judge-clause-trace
-returns-in_err-judge-clause-trace g c =
-    let p = err_from_is_err_and c.from_residual-in_err-judge.result c.from_residual-in_err-judge.ensures.1 in
-    rw (p.1, p.2)
-    (judge_refused c.args.start.now c.args.asked c.in_ok-schema.schema c.in_err-judge.field-0.0 (g.F.FileStore.seen c.args.store.now)
-    (g.F.FileStore.seen c.read_table_schema.new.store) c.in_err-judge.ensures.unbuilt c.in_ok-schema.ensures.trace)
-
-pub returns-in_err-judge-clause-beside : goal.returns-in_err-judge-clause-beside
-returns-in_err-judge-clause-beside g c =
-    let p = err_from_is_err_and c.from_residual-in_err-judge.result c.from_residual-in_err-judge.ensures.1 in
-    rw (p.1, p.2)
-    (judge_beside c.in_ok-schema.schema c.in_err-judge.field-0.0 (g.F.FileStore.seen c.args.store.now) (g.F.FileStore.seen c.read_table_schema.new.store)
-    c.in_err-judge.ensures.unbuilt c.in_ok-schema.ensures.trace)
-
-pub returns-in_err-judge-clause-history : goal.returns-in_err-judge-clause-history
-returns-in_err-judge-clause-history g c =
-    let p = err_from_is_err_and c.from_residual-in_err-judge.result c.from_residual-in_err-judge.ensures.1 in
-    rw (p.1, p.2)
-    (judge_keeps c.args.start.now c.args.asked c.in_ok-schema.schema c.in_err-judge.field-0.0 (g.F.FileStore.seen c.args.store.now)
-    (g.F.FileStore.seen c.read_table_schema.new.store) c.in_err-judge.ensures.unbuilt c.in_ok-schema.ensures.history)
-
 pub returns-clause-trace : goal.returns-clause-trace
 returns-clause-trace g c =
     let fits : SFits w64 c.args.start.now.now_millis = search rules in
     let first = g.F.FileStore.seen c.args.store.now in
     let after = g.F.FileStore.seen c.expire_table.new.store in
     let s = c.in_ok-schema.schema in
-    expired_trace c.args.start.now c.args.asked s c.expire_table.result first after c.in_ok-judge.ensures.built
+    expired_trace c.args.start.now c.args.asked s c.expire_table.result first after c.in_ok-schema.ensures.declared
     (subst (λ (a : Asking). HasTrace (DidExpire a c.expire_table.result) first after)
     (asked_is c.args.start.now c.args.asked s c.over-keep.result _ c.over-keep.ensures (to_z-of_z fits))
     (c.expire_table.ensures.trace first c.in_ok-schema.ensures.trace))
@@ -85,8 +65,11 @@ returns-clause-history g c =
     } in
     let some : IsAsking (asked_by c.args.start.now c.args.asked s) =
     record { declared = c.in_ok-schema.ensures.declared; some = c.asked_law.ensures c.args.asked s.options c.in_ok-schema.ensures.declared.options c.requires.some } in
-    expired_keeps laws c.args.start.now c.args.asked s c.in_ok-judge.ensures.built some c.expire_table.result first middle after c.in_ok-schema.ensures.trace
+    expired_keeps laws c.args.start.now c.args.asked s c.in_ok-schema.ensures.declared some c.expire_table.result first middle after c.in_ok-schema.ensures.trace
     c.in_ok-schema.ensures.history
     (subst (λ (a : Asking). HasTrace (DidExpire a c.expire_table.result) first after) asked (c.expire_table.ensures.trace first c.in_ok-schema.ensures.trace))
     (expired_goes_on (actor c.args.start.now) s c.expire_table.result middle after (c.expire_table.ensures.beside (actor c.args.start.now)))
     c.expire_table.ensures.later c.expire_table.ensures.alone
+
+pub expire_table-requires-clause-plain : goal.expire_table-requires-clause-plain
+expire_table-requires-clause-plain g c = plain_names c.in_ok-schema.schema c.in_ok-schema.ensures.declared
