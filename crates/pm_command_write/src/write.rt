@@ -142,7 +142,7 @@ fn committer_of(
     requires few { length batch ≤ group_limit }
     ensures committer { IfOk result (λ committer. committer ≡ phases.Names
         (commit_of start.now writer batch) schema) }
-    ensures may { OnOk result (MayName (naming start.now.session 0 0)) }
+    ensures may { OnOk result (MayName (naming start.now.session start.now.number 0)) }
 {
     let Writer { user, identifier } = writer;
     let check = user.is_some();
