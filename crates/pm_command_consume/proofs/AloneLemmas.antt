@@ -12,6 +12,7 @@ use Rattle.pm_machine.proofs.AloneLaws.{Traces-later}
 use Rattle.pm_snapshot.specs.Consumer.{consumer_in}
 use Rattle.pm_snapshot.specs.Names.{greatest}
 use Rattle.pm_snapshot.specs.declared.consumer.Consumer.{Consumer}
+use Rattle.pm_schema.specs.Again.{IsDeclared}
 use Rattle.pm_schema.specs.declared.schema.TableSchema.{TableSchema}
 use Rattle.pm_model_consumers.specs.Claims.{known_at, new_at}
 use Rattle.pm_model_history.specs.History.{Entry, History}
@@ -19,7 +20,7 @@ use Rattle.pm_model_following.specs.Following.{frame}
 use Rattle.pm_model_folder.specs.Consumers.{said_at, said_in}
 use Rattle.pm_model_folder.specs.Folder.{Folder, HasTable, HaveSettled}
 use Rattle.pm_model_folder.specs.Paths.{consumer_path}
-use Rattle.pm_draft.specs.Built.{IsBuilt}
+use Rattle.pm_partitions.proofs.Plain.{plain_names}
 use Rattle.pm_command.proofs.TableLemmas.{files_of}
 use Rattle.pm_scan.specs.AllCalls.{path_of}
 use Rattle.pm_read_schema.specs.AllCalls.{HasFiles}
@@ -40,7 +41,7 @@ use Rattle.pm_command_consume.specs.Alone.{Beginning, HasJoined, IsFollowed, IsI
 use Rattle.pm_command_consume.specs.Consume.{Finds, FindsUnsettled, HandsOut, IsConsuming, Joins, Lists, Opens, Starts, bytes_at, joined, moving_from, place_at, settled}
 use Rattle.pm_command_consume.specs.declared.consuming.Consuming.{Consuming}
 use Rattle.pm_command_consume.specs.declared.place.Place.{Place}
-use Rattle.pm_command_consume.proofs.StageLemmas.{Came, Reads, begins, came_so, image_at, in_turns, names_same, nothing_came, plain_names, reads_again, said_is, stays, there_first, unregistered_none}
+use Rattle.pm_command_consume.proofs.StageLemmas.{Came, Reads, begins, came_so, image_at, in_turns, names_same, nothing_came, reads_again, said_is, stays, there_first, unregistered_none}
 
 -- the laws of the machines
 pub record Laws : Type 0 where
@@ -111,18 +112,18 @@ module _ (laws : Laws) (c : Consuming) (b : Beginning) (k : Known c b) (most : �
 
   -- which schema was read
   pub schema_is : (t : TableSchema) (own : List Event) (first after : StoreView) → Then (HasSchema t) (λ later. Unit {0}) own → IsRun b.files own first after
-      → (s ≡ t) × TellsChanges t × IsBuilt t
+      → (s ≡ t) × TellsChanges t × IsDeclared t
   schema_is t own first after (earlier, later, did, any_so, is) run =
       let parts = Traces-split earlier later first after (subst (λ (own : List Event). Traces own first after) is run.trace) in
       let early = Traces-later earlier first parts.0 parts.1 in
       let late = Traces-later later parts.0 after parts.2 in
       let alone = alone_parts first parts.0 after early late run.alone in
       let so = follow.has_at laws.readers b.files (history_of b) k.folder t earlier first parts.0 did (record { trace = parts.1; alone = alone.0; has = run.has }) in
-      (so.1.is, so.1.tells, so.1.built)
+      (so.1.is, so.1.tells, so.1.declared)
 
   module _ (followed : IsFollowed b) where
     of : follow.IsOf (history_of b) s
-    of = record { is = refl; tells = followed.0; built = followed.1 }
+    of = record { is = refl; tells = followed.0; declared = followed.1 }
 
     -- ---- the consumer's file
 
@@ -202,7 +203,7 @@ module _ (laws : Laws) (c : Consuming) (b : Beginning) (k : Known c b) (most : �
       pub at_new : (g : Files) → IsLeft r s es b.names b.files g → map.get g path ≡ Some (new_text start) → StandsAt c b fresh g
       at_new g left there = record {
         folder = left.folder;
-        built = followed.1;
+        declared = followed.1;
         only = left.only;
         at = (
           here.none,
@@ -217,7 +218,7 @@ module _ (laws : Laws) (c : Consuming) (b : Beginning) (k : Known c b) (most : �
           let number : start ≡ start_at c b + 0 = let is = here.is in omega (arith, is) in
           record {
             folder = left.folder;
-            built = followed.1;
+            declared = followed.1;
             only = left.only;
             at = said_is g c.name (known_text start) start false there (reads_again laws.reads start false here.low (within_names start here.high))
                 ∙ ap (λ (n : ℕ). Some (known_at n)) number;
@@ -225,7 +226,7 @@ module _ (laws : Laws) (c : Consuming) (b : Beginning) (k : Known c b) (most : �
           }
 
       pub at_found : (g : Files) → IsLeft r s es b.names b.files g → map.get g path ≡ found → StandsAt c b untouched g
-      at_found g left there = record { folder = left.folder; built = tt; only = left.only; at = there ∙ here.found_is; settled = left.settled }
+      at_found g left there = record { folder = left.folder; declared = tt; only = left.only; at = there ∙ here.found_is; settled = left.settled }
 
       image_put : (g : Files) → IsLeft r s es b.names b.files g → IsFoundOrPut r (map.get g path) → I g
       image_put g left (inl (inl same)) = image_at c b most untouched g tt (at_found g left same)
@@ -305,7 +306,7 @@ module _ (laws : Laws) (c : Consuming) (b : Beginning) (k : Known c b) (most : �
         (record {
           stands = record {
             folder = k.folder;
-            built = followed.1;
+            declared = followed.1;
             only = λ path not. refl;
             at = said ∙ ap (λ (n : ℕ). Some (known_at n)) number;
             settled = subst (λ (known : Option ℕ). HaveSettled b.files (history_of b) (names_with (passed 0) known c.name b.names)) (sym known_is) k.settled;
@@ -455,7 +456,7 @@ module _ (laws : Laws) (c : Consuming) (b : Beginning) (k : Known c b) (most : �
           → StandsWith s es (names_at c b (passed count)) f → StandsAt c b (passed count) f
       rested count g f was others same so = record {
         folder = so.folder;
-        built = was.built;
+        declared = was.declared;
         only = λ other not. others other not ∙ was.only other not;
         at = ap said_in same ∙ was.at;
         settled = so.settled;
@@ -474,7 +475,7 @@ module _ (laws : Laws) (c : Consuming) (b : Beginning) (k : Known c b) (most : �
           let number : p.next + suc count ≡ start_at c b + suc count = omega (arith, is) in
           record {
             folder = so.folder;
-            built = was.built;
+            declared = was.declared;
             only = λ other not. others other not ∙ was.only other not;
             at = said_is f c.name (known_text (p.next + count + 1)) (p.next + suc count) false there (next_reads count high) ∙ ap (λ (n : ℕ). Some (known_at n)) number;
             settled = subst (HaveSettled f (history_of b)) (names_same c b count (suc count)) so.settled;

@@ -12,6 +12,7 @@ use Rattle.pm_store.specs.Store.{StoreView}
 use Rattle.pm_store.proofs.ImageLaws.{Extends-weaker}
 use Rattle.pm_machine.specs.Trace.{Event}
 use Rattle.pm_options.specs.declared.kinds.Producer.TheVariants as producers
+use Rattle.pm_schema.specs.Again.{IsDeclared}
 use Rattle.pm_schema.specs.declared.schema.TableSchema.{TableSchema}
 use Rattle.pm_model_consumers.specs.Claims.{known_at}
 use Rattle.pm_model_history.specs.History.{History, no_table}
@@ -20,9 +21,7 @@ use Rattle.pm_model_folder.specs.Consumers.{said_at}
 use Rattle.pm_model_folder.specs.Folder.{Folder, HaveSettled}
 use Rattle.pm_model_folder.specs.Paths.{consumer_path}
 use Rattle.pm_create.specs.Making.{LeavesFiles}
-use Rattle.pm_draft.specs.Built.{IsBuilt, unbuilt}
-use Rattle.pm_command.specs.Table as tables
-use Rattle.pm_command.proofs.TableLemmas.{files_of, judged_caused, leaves_of}
+use Rattle.pm_command.proofs.TableLemmas.{files_of, leaves_of}
 use Rattle.pm_scan.specs.AllCalls as scanner
 use Rattle.pm_scan.specs.AllCalls.{path_of}
 use Rattle.pm_read_schema.specs.AllCalls.{HasFiles, Stay}
@@ -39,7 +38,7 @@ use Rattle.pm_register.specs.AllCalls as register_calls
 use Rattle.pm_register.specs.Registrar.{IsUnregistered, consumer_at, registering}
 use Rattle.pm_move_consumer.specs.MoverAllCalls.{DidMove, ItMoves, ItRests, OthersRest, StandsWith}
 use Rattle.pm_move_consumer.specs.MoverAllCalls as move_calls
-use Rattle.pm_command_follow.specs.Follow.{DidTable, HasSchema, ShowsSchema, TellsChanges, Then, Took, of_producer, of_reader, of_unbuilt}
+use Rattle.pm_command_follow.specs.Follow.{DidTable, HasSchema, ShowsSchema, TellsChanges, Then, Took, of_producer, of_reader}
 use Rattle.pm_command_follow.specs.Printed.{count_from, frames_text, text_so_far}
 use Rattle.pm_command_follow.proofs.JoinLemmas.{IsRun, at_first, rose_wider}
 use Rattle.pm_command_follow.proofs.HistoryLemmas as follow
@@ -333,7 +332,7 @@ module _ (laws : Laws) (c : Consuming) (b : Beginning) (k : Known c b) where
       let came = gone_on count followed p full count text (DidFrame s (p.next + count) (Err e)) (λ f. Stops c b count first last e) own first last (omega arith) calls run
       (λ g frames is low handed within later middle did wider run.
       let at : 1 ≤ p.next + count = omega (arith, low) in
-      let of : follow.IsOf (history_of b) s = record { is = refl; tells = followed.0; built = followed.1 } in
+      let of : follow.IsOf (history_of b) s = record { is = refl; tells = followed.0; declared = followed.1 } in
       let read = follow.frame_at laws.readers g (history_of b) handed.stands.folder s (p.next + count) (Err e) later middle last of at within did run in
       let left = leaves_of (StandsAt c b (passed count)) g last read.files.here handed.stands in
       stays (IsImage c b count) (λ f. Stops c b count first last e) g middle last (image_at c b count (passed count) g (omega arith) handed.stands)
@@ -460,22 +459,6 @@ module _ (laws : Laws) (c : Consuming) (b : Beginning) (k : Known c b) where
       table_not is = cc
   reader_cause first last e cause left = absurd cause
 
-  unbuilt_cause : (t : TableSchema) (first last : StoreView) (e : Refusal) → s ≡ t → TellsChanges t → (e ≡ refusals.Memory) ⊎ (unbuilt t ≡ Some e)
-      → tables.MayRefuse (history_of b) first last e → Leaves c b untouched last → Refuses c b first last e
-  unbuilt_cause t first last refusals.Memory is tells why may left = (untouched, tt, left)
-  unbuilt_cause t first last (refusals.StoreFault path) is tells why may left = (may, (untouched, tt, left))
-  unbuilt_cause t first last refusals.NoTable is tells why may left = absurd (table_not may)
-    where
-      table_not : history_of b ≡ no_table → ⊥
-      table_not is = cc
-  unbuilt_cause t first last (refusals.Unsupported what text) is tells (inl memory) may left = absurd cc
-  unbuilt_cause t first last (refusals.Unsupported what text) is tells (inr why) may left = (
-    subst TellsChanges (sym is) tells,
-    subst (λ (t : TableSchema). unbuilt t ≡ Some (refusals.Unsupported what text)) (sym is) why,
-    left,
-  )
-  unbuilt_cause t first last e is tells why may left = absurd may
-
   schema_refused : (e : Refusal) (own : List Event) (first last : StoreView) → ShowsSchema e own → IsRun b.files own first last → FirstRefused first last e
   schema_refused e own first last (of_reader shows) run =
       let stay = stayed b.files own first last (shows_calls e own shows) run.trace run.alone run.has in
@@ -485,9 +468,6 @@ module _ (laws : Laws) (c : Consuming) (b : Beginning) (k : Known c b) where
       let so = follow.schema_at laws.readers b.files (history_of b) k.folder t own first last did run in
       rest_refused first last e so.0
       (λ left. subst (Refuses c b first last) (sym is) (subst (λ (t : TableSchema). t.options.producer ≡ producers.None) (sym so.1) none, left))
-  schema_refused e own first last (of_unbuilt t tells why did) run =
-      let so = follow.schema_at laws.readers b.files (history_of b) k.folder t own first last did run in
-      rest_refused first last e so.0 (unbuilt_cause t first last e so.1 tells why (judged_caused (history_of b) first last t e so.1 why))
 
   -- a call that only reads, or a refusal of it, where nobody touched the file yet
   reads_cause : (first middle last : StoreView) (e : Refusal) → first.faults ≤ middle.faults → latest_calls.IsCaused middle last e → Leaves c b untouched last
@@ -628,7 +608,7 @@ module _ (laws : Laws) (c : Consuming) (b : Beginning) (k : Known c b) where
       (λ g here later middle did wider run. by g here later middle wider run did))
     where
       of : follow.IsOf (history_of b) s
-      of = record { is = refl; tells = followed.0; built = followed.1 }
+      of = record { is = refl; tells = followed.0; declared = followed.1 }
 
       by : (g : Files) → JoinedHere laws c b k 0 followed start g → (later : List Event) (middle : StoreView) → first.faults ≤ middle.faults → IsRun g later middle last
           → DidTable s start (Err e) later → Came (IsImage c b 0) (λ f. Refuses c b first last e) middle last
@@ -648,7 +628,7 @@ module _ (laws : Laws) (c : Consuming) (b : Beginning) (k : Known c b) where
       → (s ≡ t) × IsFollowed b
   followed_by t own first last calls run =
       let so = alone.schema_is laws c b k 0 t own first last calls run in
-      (so.0, (subst TellsChanges (sym so.0) so.1, subst IsBuilt (sym so.0) so.2))
+      (so.0, (subst TellsChanges (sym so.0) so.1, subst IsDeclared (sym so.0) so.2))
 
   refused_first_at : (e : Refusal) (own : List Event) (first last : StoreView) → ShowsFirst c e own → IsRun b.files own first last → FirstRefused first last e
   refused_first_at e own first last (of_schema shows) run = schema_refused e own first last shows run

@@ -1,14 +1,12 @@
 -- When all is handed out.
-use Rattle.std.proofs.Common.{◌≡◌, ◌↔◌, inl, inr, ℕ, true, Option, None, Some, refl, sym, ap, subst, ◌∙◌, arith}
+use Rattle.std.proofs.Common.{◌≡◌, inl, inr, ℕ, true, Option, None, Some, refl, sym, ap, subst, ◌∙◌, arith}
 use Rattle.std.specs.FinMap as map
 use Rattle.pm_base.specs.Faults.{Rose}
 use Rattle.pm_values.specs.declared.refusal.Refusal.{Refusal}
 use Rattle.pm_values.specs.declared.refusal.Refusal.TheVariants as refusals
 use Rattle.pm_io.specs.Sink.{SinkFailed, SinkView}
 use Rattle.pm_store.specs.Store.{StoreView}
-use Rattle.pm_schema.specs.declared.schema.TableSchema.{TableSchema}
 use Rattle.pm_model_folder.proofs.Facts.{some-none}
-use Rattle.pm_draft.specs.Built.{IsBuilt, unbuilt}
 use Rattle.pm_scan.specs.AllCalls.{path_of}
 use Rattle.pm_command_consume.specs.Alone.{AnswersTable, Beginning, HasGone, IsThere, Refuses, Stops, breaks_off, full_after, newest_of, prints, refuses, start_after, start_at, stops}
 use Rattle.pm_command_consume.specs.Complete.{MayHandOutAll, PrintsAll}
@@ -20,17 +18,12 @@ there_gone b id there gone = some-none (map.get b.files (path_of b.schema id)) t
 is_memory : (e : Refusal) → e ≡ refusals.Memory → Some e ≡ Some refusals.Memory
 is_memory e is = ap Some is
 
-module _ (built : (s : TableSchema) → (unbuilt s ≡ None) ↔ IsBuilt s) (c : Consuming) (b : Beginning) (first last : StoreView) (before after : SinkView)
+module _ (c : Consuming) (b : Beginning) (first last : StoreView) (before after : SinkView)
     (may : MayHandOutAll c b) (store : Rose first.faults last.faults → ⊥) where
-  none_some : (known : Option Refusal) (e : Refusal) → known ≡ None → known ≡ Some e → ⊥
-  none_some known e none some = cc
-
   refused : (e : Refusal) → Refuses c b first last e → e ≡ refusals.Memory
   refused refusals.Memory why = refl
   refused (refusals.StoreFault path) why = absurd (store why.0)
   refused refusals.NoChangelog why = absurd (may.joined.0.0 why.0)
-  refused (refusals.Unsupported what text) why =
-      absurd (none_some (unbuilt b.schema) (refusals.Unsupported what text) ((built b.schema).1 may.joined.0.1) why.1)
   refused (refusals.NoSnapshot id latest) (followed, none, asked, newest, above, left) =
       let start_is : start_at c b ≡ id =
       ap (λ (known : Option ℕ). start_after known c.from (newest_of b)) none ∙ ap (λ (from : Option ℕ). start_after None from (newest_of b)) asked in

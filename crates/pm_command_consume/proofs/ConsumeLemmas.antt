@@ -16,7 +16,7 @@ use Rattle.pm_read_schema.specs.AllCalls.{HasFiles, Stay}
 use Rattle.pm_read_schema.specs.AllCalls as reader_calls
 use Rattle.pm_read_schema.proofs.AllCallsLemmas.{shows_at, shows_calls}
 use Rattle.pm_read_schema.proofs.StillLemmas.{stayed}
-use Rattle.pm_command_follow.specs.Follow.{HasSchema, ShowsSchema, Then, of_producer, of_reader, of_unbuilt}
+use Rattle.pm_command_follow.specs.Follow.{HasSchema, ShowsSchema, Then, of_producer, of_reader}
 use Rattle.pm_command_follow.proofs.JoinLemmas.{IsRun, Traces-split}
 use Rattle.pm_command_follow.proofs.HistoryLemmas as follow
 use Rattle.pm_command_consume.specs.Alone.{AnswersNone, Begins, ConsumesAny, RefusesNone, history_of, settled_at}
@@ -61,8 +61,6 @@ module _ (laws : Laws) (c : Consuming) (f : Files) (folder : Folder f no_table) 
       let stay = stayed f own first last (shows_calls e own shows) run.trace run.alone run.has in
       rests_none e first last before after run.has stay.0 (reader_none first last e (shows_at f no_table folder first last e own shows stay.1 run.trace)) same
   schema_none e own first last before after (of_producer t none is did) same run =
-      absurd (follow.schema_at laws.readers f no_table folder t own first last did run).1
-  schema_none e own first last before after (of_unbuilt t tells why did) same run =
       absurd (follow.schema_at laws.readers f no_table folder t own first last did run).1
 
   first_none : (e : Refusal) (own : List Event) (first last : StoreView) (before after : SinkView) → ShowsFirst c e own → after ≡ before → IsRun f own first last

@@ -7,13 +7,13 @@ use Rattle.pm_io.specs.Sink.{SinkView, TookPrefix}
 use Rattle.pm_store.specs.Files.{Files}
 use Rattle.pm_store.specs.Store.{StoreView}
 use Rattle.pm_machine.specs.Trace.{Event, HasTrace}
+use Rattle.pm_schema.specs.Again.{IsDeclared}
 use Rattle.pm_schema.specs.declared.schema.TableSchema.{TableSchema}
 use Rattle.pm_snapshot.specs.Names.{greatest}
 use Rattle.pm_model_history.specs.History.{Entry, History, IsTableOf, table}
 use Rattle.pm_model_folder.specs.Changes.{Actor}
 use Rattle.pm_model_folder.specs.Ledger.{Past, Stands, count_of}
 use Rattle.pm_model_folder.proofs.Facts.{goes_on}
-use Rattle.pm_draft.specs.Built.{IsBuilt}
 use Rattle.pm_beside.specs.Bringing.{BringsBeside, OthersApart}
 use Rattle.pm_beside.proofs.BringLemmas.{brings-meanwhile}
 use Rattle.pm_read_schema.specs.Beside.{AnyPast, IsTold, Learns}
@@ -29,6 +29,7 @@ use Rattle.pm_move_consumer.specs.MoverAllCalls.{DidMove}
 use Rattle.pm_scan.specs.Beside.{TellsBeside}
 use Rattle.pm_read_frame.specs.AllCalls.{DidFrame}
 use Rattle.pm_read_frame.specs.Frames.{AreFramesFrom, joined}
+use Rattle.pm_partitions.proofs.Plain.{plain_names}
 use Rattle.pm_command_follow.specs.Beside.{IsFirstOf, IsStartOf}
 use Rattle.pm_command_follow.specs.Follow.{HasSchema, LearnsWhy, TellsChanges, Then}
 use Rattle.pm_command_follow.specs.Pieces.{IsStarting, LearnsStart, LearnsTable, PieceBeside, PrintsStart}
@@ -47,7 +48,7 @@ use Rattle.pm_command_consume.specs.declared.place.Place.{Place}
 use Rattle.pm_command_consume.specs.declared.place.Standing.TheVariants as standings
 use Rattle.pm_command_consume.proofs.BringLemmas.{bring_known, bring_none, bring_then, bring_weaker, bring_with, learned, registers_step, steps_still, why_brings}
 use Rattle.pm_command_consume.proofs.PieceLemmas.{HasJoined, opens_with, opens_without, settled_at}
-use Rattle.pm_command_consume.proofs.StageLemmas.{plain_names}
+
 
 -- ---- calls one after another
 
@@ -57,21 +58,21 @@ any_twice first middle after one other =
 
 -- ---- the schema that its calls read
 
-unsettled_schema : (s : TableSchema) (c : Consuming) (found : Option (List ℕ)) (own : List Event) → FindsUnsettled s c found own → TellsChanges s × IsBuilt s
-unsettled_schema s c found own (none, (said, (earlier, later, (tells, built, did), does, is))) = (tells, built)
+unsettled_schema : (s : TableSchema) (c : Consuming) (found : Option (List ℕ)) (own : List Event) → FindsUnsettled s c found own → TellsChanges s × IsDeclared s
+unsettled_schema s c found own (none, (said, (earlier, later, (tells, declared, did), does, is))) = (tells, declared)
 
 pub unsettled_so : (s : TableSchema) (c : Consuming) (found : Option (List ℕ)) (first after : StoreView) → HasTrace (FindsUnsettled s c found) first after
-    → TellsChanges s × IsBuilt s
+    → TellsChanges s × IsDeclared s
 unsettled_so s c found first after (own, did, trace) = unsettled_schema s c found own did
 
-opens_schema : (s : TableSchema) (c : Consuming) (p : Place) (full : Bool) (text : List ℕ) (own : List Event) → Opens s c p full text own → TellsChanges s × IsBuilt s
-opens_schema s c p full text own (settled (earlier, later, (tells, built, did), does, is) without none) = (tells, built)
+opens_schema : (s : TableSchema) (c : Consuming) (p : Place) (full : Bool) (text : List ℕ) (own : List Event) → Opens s c p full text own → TellsChanges s × IsDeclared s
+opens_schema s c p full text own (settled (earlier, later, (tells, declared, did), does, is) without none) = (tells, declared)
 opens_schema s c p full text own
     (joined_so (first, rest, (found, (starts, registers, (latest, (finds_calls, lists, finds_so, listed, one), at, low, high), joins, two)), reads, three) same bytes) =
     unsettled_schema s c found finds_calls finds_so
 
 pub opens_so : (s : TableSchema) (c : Consuming) (p : Place) (full : Bool) (text : List ℕ) (first after : StoreView) → HasTrace (Opens s c p full text) first after
-    → TellsChanges s × IsBuilt s
+    → TellsChanges s × IsDeclared s
 opens_so s c p full text first after (own, opens, trace) = opens_schema s c p full text own opens
 
 -- ---- where nothing is printed
@@ -164,15 +165,15 @@ nothing_brings me r store = bring_none me (Registers me r) (λ f q. IsWithin r q
 
 module _ (me : Actor) (s : TableSchema) (c : Consuming) where
   -- what a registering needs is known once the snapshots were listed
-  within_learned : (found : Option (List ℕ)) (latest start : ℕ) (first before now : StoreView) → IsBuilt s → start ≤ suc latest → LearnsTable s first before
+  within_learned : (found : Option (List ℕ)) (latest start : ℕ) (first before now : StoreView) → IsDeclared s → start ≤ suc latest → LearnsTable s first before
       → Learns AnyPast (λ f p. (latest ≤ greatest) × (latest ≤ count_of p.history)) before now
       → Learns AnyPast (λ f p. IsTableOf s p.history × IsWithin (registering c.name found start) p) first now
-  within_learned found latest start first before now built high learns listed =
+  within_learned found latest start first before now declared high learns listed =
       learns-then AnyPast (λ f p. IsTableOf s p.history) (λ f p. IsTableOf s p.history × IsWithin (registering c.name found start) p) first before now learns
       (learns-weaker (λ f p. IsTableOf s p.history) (λ f p. IsTableOf s p.history × AnyPast f p)
       (λ f p. IsTableOf s p.history × ((latest ≤ greatest) × (latest ≤ count_of p.history)))
       (λ f p. IsTableOf s p.history × IsWithin (registering c.name found start) p) before now (λ f p so. (so, tt))
-      (λ f p stands so. (so.0, record { schema = s; is = so.0; plain = plain_names s built; next = below (count_of p.history) so.1.1 }))
+      (λ f p stands so. (so.0, record { schema = s; is = so.0; plain = plain_names s declared; next = below (count_of p.history) so.1.1 }))
       (learns_with (λ h. IsTableOf s h) (table_on s) AnyPast (λ f p. (latest ≤ greatest) × (latest ≤ count_of p.history)) before now listed))
     where
       below : (n : ℕ) → latest ≤ n → start ≤ suc n
@@ -233,7 +234,7 @@ module _ (me : Actor) (s : TableSchema) (c : Consuming) where
   tries start e out out_after before after (inl (text, (own, did, trace), fails)) = (own, tt, trace)
   tries start e out out_after before after (inr ((own, did, trace), same)) = (own, tt, trace)
 
-  first_bare : FirstLaw → (start : ℕ) (text : List ℕ) (first after : StoreView) → TellsChanges s × IsBuilt s
+  first_bare : FirstLaw → (start : ℕ) (text : List ℕ) (first after : StoreView) → TellsChanges s × IsDeclared s
       → BringsBeside me (StepsStill me c) AnyPast (λ f q. IsStarting s true start text q) first after → BringsFirst me s c start true [] 0 text first after
   first_bare law start text first after so brings =
       bring_weaker me (StepsStill me c) (Steps me c start []) AnyPast AnyPast (λ f q. IsStarting s true start text q)
@@ -249,7 +250,7 @@ module _ (me : Actor) (s : TableSchema) (c : Consuming) where
       (learned me c (λ next shown. ⊥) (λ f q. IsTableOf s q.history) (λ f q. IsStarting s true start text q) before after learns)
 
   pub table_refused : PastStays → FirstLaw → (start : ℕ) (p : Place) (e : Refusal) (out out_after : SinkView) (first before after : StoreView) → c.full ≡ true
-      → TellsChanges s × IsBuilt s → HasJoined s c start p first before
+      → TellsChanges s × IsDeclared s → HasJoined s c start p first before
       → BringsBeside me (StepsStill me c) AnyPast (λ f q. IsTableOf s q.history × (start - 1 ≤ count_of q.history)) first before
       → PrintsStart s start out out_after before after (Some e) → PieceBeside (LearnsStart s start) (TellsBeside s) out out_after before after (Some e)
       → ConsumesBeside me c out out_after first after (Some e)
@@ -294,7 +295,7 @@ module _ (me : Actor) (s : TableSchema) (c : Consuming) where
 
 module _ (law : FirstLaw) (me : Actor) (s : TableSchema) (c : Consuming) (p : Place) (full : Bool) (table_text text : List ℕ) (out between out_after : SinkView)
     (first middle : StoreView) (opens : HasTrace (Opens s c p full table_text) first middle) (opened : HasOpened me s c p full text out between first middle) where
-  so : TellsChanges s × IsBuilt s
+  so : TellsChanges s × IsDeclared s
   so = opens_so s c p full table_text first middle opens
 
   abbrev Kept : History → Type 0

@@ -16,21 +16,18 @@ use Rattle.pm_snapshot.specs.declared.fault.SnapFault.{SnapFault}
 use Rattle.pm_schema.specs.declared.schema.TableSchema.{TableSchema}
 use Rattle.pm_model_consumers.specs.Claims.{Said, known_at}
 use Rattle.pm_model_history.specs.History.{Entry, table}
-use Rattle.pm_model_folder.specs.Changes.{HavePlainNames, IsPlain}
 use Rattle.pm_model_folder.specs.Consumers.{said_at, said_in, said_of}
 use Rattle.pm_model_folder.specs.Folder.{HasTable, HaveSettled, IsSettled}
 use Rattle.pm_model_folder.specs.Meaning.{ConsumerAt, HasSnapshotAt}
 use Rattle.pm_model_folder.specs.Paths.{consumer_path, snapshot_path}
 use Rattle.pm_model_folder.proofs.Facts.{some-none}
 use Rattle.pm_model_folder.proofs.PathLemmas.{consumer-snapshot}
-use Rattle.pm_draft.specs.Built.{IsBuilt}
 use Rattle.pm_scan.specs.AllCalls.{path_of}
 use Rattle.pm_read_schema.specs.AllCalls.{HasFiles, Stay}
 use Rattle.pm_read_schema.proofs.StillLemmas.{stayed}
 use Rattle.pm_register.specs.Registrar.{IsUnregistered, consumer_at}
 use Rattle.pm_command_follow.specs.Follow.{Then}
 use Rattle.pm_command_follow.proofs.JoinLemmas.{IsRun, Traces-split}
-use Rattle.std.specs.List.{AllByRecursion}
 use Rattle.pm_command_consume.specs.Alone.{Beginning, IsImage, IsThere, IsWithin, Stage, StandsAt, names_at, names_with, passed, settled_in, untouched}
 use Rattle.pm_command_consume.specs.declared.consuming.Consuming.{Consuming}
 
@@ -126,9 +123,6 @@ consumer_of f name n said = by (map.get f (consumer_path name)) refl said
 
 -- ---- the stages
 
-pub plain_names : (s : TableSchema) → IsBuilt s → HavePlainNames s
-plain_names s built = subst (AllByRecursion IsPlain) (sym built.partition) tt
-
 module _ (c : Consuming) (b : Beginning) where
   abbrev s : TableSchema
   s = b.schema
@@ -142,7 +136,7 @@ module _ (c : Consuming) (b : Beginning) where
   path_apart (suc id) is = consumer-snapshot c.name _ (sym is)
 
   pub begins : HasTable b.files s es → HaveSettled b.files (table s es) b.names → StandsAt c b untouched b.files
-  begins folder settled_so = record { folder = folder; built = tt; only = λ path not. refl; at = refl; settled = settled_so }
+  begins folder settled_so = record { folder = folder; declared = tt; only = λ path not. refl; at = refl; settled = settled_so }
 
   -- a snapshot's file is as it was
   pub still_there : (stage : Stage) (f : Files) (id : ℕ) → StandsAt c b stage f → map.get f (path_of s id) ≡ map.get b.files (path_of s id)

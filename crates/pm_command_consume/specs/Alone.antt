@@ -12,6 +12,7 @@ use Rattle.pm_store.specs.Files.{Files}
 use Rattle.pm_store.specs.Images.{Extends}
 use Rattle.pm_store.specs.Store.{FromFirst, StoreView}
 use Rattle.pm_options.specs.declared.kinds.Producer.TheVariants as producers
+use Rattle.pm_schema.specs.Again.{IsDeclared}
 use Rattle.pm_schema.specs.declared.schema.TableSchema.{TableSchema}
 use Rattle.pm_model_consumers.specs.Claims.{Said, known_at, new_at}
 use Rattle.pm_model_history.specs.History.{Entry, History, no_table, table}
@@ -20,7 +21,6 @@ use Rattle.pm_model_folder.specs.Consumers.{said_at}
 use Rattle.pm_model_folder.specs.Folder.{Folder, HaveSettled}
 use Rattle.pm_model_folder.specs.Paths.{consumer_path}
 use Rattle.pm_create.specs.Making.{LeavesFiles}
-use Rattle.pm_draft.specs.Built.{IsBuilt, unbuilt}
 use Rattle.pm_scan.specs.AllCalls.{path_of}
 use Rattle.pm_register.specs.AllCalls.{IsGreatest, NoneExceeds}
 use Rattle.pm_command.specs.Outside.{ImagesRest, Outside, Rests}
@@ -110,17 +110,17 @@ names_with (passed count) (Some next) name names = names
 abbrev pub names_at : Consuming → Beginning → Stage → List (List ℕ)
 names_at c b stage = names_with stage b.known c.name b.names
 
--- only of a table that is built is the file another
-abbrev pub IsBuiltAt : Beginning → Stage → Type 0
-IsBuiltAt b untouched = Unit {0}
-IsBuiltAt b fresh = IsBuilt b.schema
-IsBuiltAt b (passed count) = IsBuilt b.schema
+-- only of a table whose schema is declared is the file another
+abbrev pub IsDeclaredAt : Beginning → Stage → Type 0
+IsDeclaredAt b untouched = Unit {0}
+IsDeclaredAt b fresh = IsDeclared b.schema
+IsDeclaredAt b (passed count) = IsDeclared b.schema
 
 -- The files stand for the history, no path but the consumer's has another content, its file is that of the stage, and
 -- so are the names that are settled.
 pub record StandsAt (c : Consuming) (b : Beginning) (stage : Stage) (f : Files) : Type 0 where
   pub folder : Folder f (history_of b)
-  pub built : IsBuiltAt b stage
+  pub declared : IsDeclaredAt b stage
   pub only : (path : List ℕ) → path ≢ consumer_path c.name → map.get f path ≡ map.get b.files path
   pub at : IsAt c b stage f
   pub settled : HaveSettled f (history_of b) (names_at c b stage)
@@ -148,9 +148,9 @@ HasGone b id = map.get b.files (path_of b.schema id) ≡ None
 abbrev pub IsThere : Beginning → ℕ → Type 0
 IsThere b id = IsSome (map.get b.files (path_of b.schema id))
 
--- the table tells its changes and is built
+-- the table tells its changes, and its schema is declared
 abbrev pub IsFollowed : Beginning → Type 0
-IsFollowed b = TellsChanges b.schema × IsBuilt b.schema
+IsFollowed b = TellsChanges b.schema × IsDeclared b.schema
 
 -- The consumer was found settled, or was registered: its start isn't too high, and no floor exceeds it.
 abbrev pub HasJoined : Consuming → Beginning → Type 0
@@ -178,17 +178,15 @@ pub data BreaksOff (c : Consuming) (b : Beginning) (last : StoreView) (before af
       (frame b.schema b.entries (start_at c b + count))
       → Leaves c b (passed count) last → BreaksOff c b last before after count
 
--- What it may be refused for before anything is printed, and what it leaves then. The table tells nothing or isn't
--- built; the start that is asked for is too high; a floor exceeds it, and then the consumer is new; the snapshot of the
--- starting table has gone, and then it is settled at the start; a fault of the store was counted; or memory ran out.
+-- What it may be refused for before anything is printed, and what it leaves then. The table tells nothing; the
+-- start that is asked for is too high; a floor exceeds it, and then the consumer is new; the snapshot of the starting
+-- table has gone, and then it is settled at the start; a fault of the store was counted; or memory ran out.
 abbrev pub Refuses : Consuming → Beginning → StoreView → StoreView → Refusal → Type 0
 Refuses c b first last refusals.Memory = (stage : Stage) × IsWithin 0 stage × Leaves c b stage last
 Refuses c b first last (refusals.StoreFault path) =
     Rose first.faults last.faults × ((stage : Stage) × IsWithin 0 stage × Leaves c b stage last)
 Refuses c b first last refusals.NoChangelog =
     (b.schema.options.producer ≡ producers.None) × Leaves c b untouched last
-Refuses c b first last (refusals.Unsupported what text) =
-    TellsChanges b.schema × (unbuilt b.schema ≡ Some (refusals.Unsupported what text)) × Leaves c b untouched last
 Refuses c b first last (refusals.NoSnapshot id latest) = IsFollowed b × (b.known ≡ None) × (c.from ≡ Some id)
     × (latest ≡ newest_of b) × (suc latest < id) × Leaves c b untouched last
 Refuses c b first last (refusals.BelowFloor next floor) = IsFollowed b × (b.known ≡ None) × (next ≡ start_at c b)

@@ -6,9 +6,8 @@ use Rattle.pm_io.specs.Sink.{SinkView}
 use Rattle.pm_command_consume.specs.Alone.{Beginning, HasFrames, PrintsFrames, frames_at}
 use Rattle.pm_command_consume.specs.declared.consuming.Consuming.{Consuming}
 
--- The table tells its changes and is built; where the consumer isn't settled its start isn't too high, and no floor
--- exceeds it; and the snapshot of the starting table, if that is printed, and each from the start to the newest are
--- there.
+-- The table tells its changes; where the consumer isn't settled its start isn't too high, and no floor exceeds it; and
+-- the snapshot of the starting table, if that is printed, and each from the start to the newest are there.
 abbrev pub MayHandOutAll : Consuming → Beginning → Type 0
 MayHandOutAll c b = HasFrames c b (frames_at c b)
 

@@ -21,7 +21,6 @@ ghost use Rattle.pm_command_consume.specs.Consume.{Ends, HasConsumed, IsConsumin
 ghost use Rattle.pm_command_consume.specs.declared.consuming.Consuming.{Consuming};
 
 use pm_avro_file::one_opening_law;
-use pm_draft::built_law;
 use pm_manifest::{Entry, ManifestMeta, joined_law};
 use pm_model_contents::one_runs_law;
 use pm_record::one_reading_law;
@@ -43,22 +42,19 @@ pub fn consume_law()
     pm_scan::all_calls_law();
     pm_read_frame::all_calls_law();
     consumer_law();
-    built_law();
     schema_law();
     declared_law();
 }
 
-/// Where the snapshots that it has to print are there, of a table that tells its changes and is built, with a consumer
-/// that is settled or a start that isn't too high and that no floor exceeds, and no fault of the store or of the sink
-/// was counted, all is handed out, or memory ran out.
+/// Where the snapshots that it has to print are there, of a table that tells its changes, with a consumer that is
+/// settled or a start that isn't too high and that no floor exceeds, and no fault of the store or of the sink was
+/// counted, all is handed out, or memory ran out.
 pub fn complete_law()
     ensures { (c : Consuming) (b : Beginning) (first last : StoreView) (before after : SinkView)
         (answer : Option Refusal) → AnswersTable c b first last before after answer → MayHandOutAll c b
         → (Rose first.faults last.faults → ⊥) → (SinkFailed before after → ⊥)
         → PrintsAll c b before after answer }
-{
-    built_law();
-}
+{}
 
 /// Rows that are replayed twice in a row leave what they leave once, whatever table they come to. So a frame that was
 /// printed and not moved past may be printed again.

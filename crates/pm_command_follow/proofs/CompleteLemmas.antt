@@ -1,5 +1,5 @@
 -- When all that is asked for is printed.
-use Rattle.std.proofs.Common.{◌≡◌, ◌⊎◌, ◌↔◌, inl, inr, ℕ, suc, ◌+◌, ◌<◌, ◌≤◌, Bool, List, length, Option, None, Some, IsSome, IsSomeAnd, refl, sym, ap, subst, ◌∙◌, arith}
+use Rattle.std.proofs.Common.{◌≡◌, ◌⊎◌, inl, inr, ℕ, suc, ◌+◌, ◌<◌, ◌≤◌, Bool, List, length, Option, None, Some, IsSome, IsSomeAnd, refl, sym, ap, subst, ◌∙◌, arith}
 use Rattle.std.specs.FinMap as map
 use Rattle.pm_base.specs.Faults.{Rose}
 use Rattle.pm_values.specs.declared.refusal.Refusal.{Refusal}
@@ -10,7 +10,6 @@ use Rattle.pm_store.specs.Store.{StoreView}
 use Rattle.pm_store.specs.declared.call.Op.{Op}
 use Rattle.pm_schema.specs.declared.schema.TableSchema.{TableSchema}
 use Rattle.pm_model_history.specs.History.{Entry, table}
-use Rattle.pm_draft.specs.Built.{IsBuilt, unbuilt}
 use Rattle.pm_scan.specs.AllCalls.{path_of}
 use Rattle.pm_command_follow.specs.Complete.{MayPrintAll, PrintsAll}
 use Rattle.pm_command_follow.specs.Follow.{AnswersHistory, HasGone, IsThere, MayRefuse, MayStop, StopsAfter}
@@ -32,16 +31,12 @@ too_high (Some at) id newest latest high is same above =
     omega (arith, high, asked, same, above)
 
 module _ (s : TableSchema) (es : List Entry) (from : Option ℕ) (full : Bool) (first last : StoreView) (may : MayPrintAll s es from full first)
-    (built : (s : TableSchema) → (unbuilt s ≡ None) ↔ IsBuilt s) (quiet : Rose first.faults last.faults → ⊥) where
+    (quiet : Rose first.faults last.faults → ⊥) where
   at_first : (e : Refusal) → MayRefuse (table s es) from full first last e → e ≡ refusals.Memory
   at_first refusals.Memory why = refl
   at_first (refusals.StoreFault path) why = absurd (quiet why)
   at_first refusals.NoTable why = absurd (let none = why in cc)
   at_first refusals.NoChangelog (t, is, none) = absurd (may.starts.0 (ap (λ (t : TableSchema). t.options.producer) is ∙ none))
-  at_first (refusals.Unsupported what text) (t, is, tells, some) =
-      let none : unbuilt s ≡ None = (built s).1 may.built in
-      let other : unbuilt s ≡ Some (refusals.Unsupported what text) = ap unbuilt is ∙ some in
-      absurd (let both = sym none ∙ other in cc)
   at_first (refusals.NoSnapshot id latest) (has, asked, newest, above) = absurd (too_high from id (length es) latest may.starts.1 asked newest above)
   at_first (refusals.Expired id) (has, asked, is, within, gone) =
       absurd (not_gone s es id first (subst (λ (id : ℕ). IsThere s id first) (sym is) (may.base asked)) gone)

@@ -21,7 +21,6 @@ use Rattle.pm_snapshot.specs.Names.{greatest}
 use Rattle.pm_model_folder.specs.Folder.{Folder, HasTable}
 use Rattle.pm_model_folder.specs.Ledger.{count_of}
 use Rattle.pm_model_folder.specs.Paths.{schema_path, snapshot_path}
-use Rattle.pm_draft.specs.Built.{IsBuilt, unbuilt}
 use Rattle.pm_read_schema.specs.AllCalls.{HasFiles, Stay}
 use Rattle.pm_read_schema.specs.AllCalls as reader_calls
 use Rattle.pm_read_schema.specs.Trace as reader
@@ -37,9 +36,8 @@ use Rattle.pm_scan.specs.declared.rows.Rows.TheVariants as shown
 use Rattle.pm_read_frame.specs.AllCalls as frame_calls
 use Rattle.pm_read_frame.specs.AllCalls.{DidFrame, ReadsFrame}
 use Rattle.pm_read_frame.specs.Meaning.{HasProducer}
-use Rattle.pm_command.specs.Table as tables
-use Rattle.pm_command.proofs.TableLemmas.{files_of, images_rest, judged_caused, leaves_of, rests_of}
-use Rattle.pm_command_follow.specs.Follow.{AnswersHistory, AreThere, DidTable, Ends, FollowsAny, GoesOn, HasFollowedTable, HasSchema, IsFollowed, Lists, MayRefuse, MayStartAt, MayStop, Opens, Prints, PrintsPrefix, PrintsTable, ReadsAll, ReadsFrames, ReadsTable, ShowsFirst, ShowsSchema, Starts, StopsAfter, TellsChanges, Then, Took, TookPart, TookPieces, all, fails_frame, fails_table, in_frame, in_table, of_listing, of_producer, of_reader, of_schema, of_start, of_table, of_unbuilt, refused_first, refused_frame, refused_listing}
+use Rattle.pm_command.proofs.TableLemmas.{files_of, images_rest, leaves_of, rests_of}
+use Rattle.pm_command_follow.specs.Follow.{AnswersHistory, AreThere, DidTable, Ends, FollowsAny, GoesOn, HasFollowedTable, HasSchema, IsFollowed, Lists, MayRefuse, MayStartAt, MayStop, Opens, Prints, PrintsPrefix, PrintsTable, ReadsAll, ReadsFrames, ReadsTable, ShowsFirst, ShowsSchema, Starts, StopsAfter, TellsChanges, Then, Took, TookPart, TookPieces, all, fails_frame, fails_table, in_frame, in_table, of_listing, of_producer, of_reader, of_schema, of_start, of_table, refused_first, refused_frame, refused_listing}
 use Rattle.pm_command_follow.specs.Printed.{count_from, follow_text, frames_text, start_of, table_head, text_so_far}
 use Rattle.pm_command_follow.proofs.JoinLemmas.{IsRun, at_first, in_turn, rose_wider}
 use Rattle.pm_command_follow.proofs.TextLemmas.{follow_split, frame_behind, frames_push, took_behind, took_longer, with_frames}
@@ -51,7 +49,6 @@ pub record Laws : Type 0 where
       → HasTrace (scanner.Ends (passed_at s id) result) before after → PassesOf s id before after result
   pub frames : (s : TableSchema) (id : ℕ) (result : Result (List ℕ) Refusal) (before after : StoreView) → 1 ≤ id
       → HasTrace (DidFrame s id result) before after → frame_calls.ReadsFrames s id before after result
-  pub built : (s : TableSchema) → (unbuilt s ≡ None) ↔ IsBuilt s
   pub read : (path text : List ℕ) (s : TableSchema) → (schema_of path text ≡ Ok s) ↔ SchemaOf path text s
   pub declared : (path text : List ℕ) (s : TableSchema) → SchemaOf path text s → IsDeclared s
 
@@ -77,7 +74,7 @@ path_is s (suc id) low = refl
 pub record IsOf (h : History) (t : TableSchema) : Type 0 where
   pub is : IsTableOf t h
   pub tells : TellsChanges t
-  pub built : IsBuilt t
+  pub declared : IsDeclared t
 
 module _ (laws : Laws) (f : Files) (h : History) (folder : Folder f h) where
   abbrev es : List Entry
@@ -97,9 +94,9 @@ module _ (laws : Laws) (f : Files) (h : History) (folder : Folder f h) where
       (stay.0, ready_at f h folder t own did stay.1)
 
   pub has_at : (t : TableSchema) (own : List Event) (first after : StoreView) → HasSchema t own → IsRun f own first after → Stay f first after × IsOf h t
-  has_at t own first after (tells, built, did) run =
+  has_at t own first after (tells, declared, did) run =
       let so = schema_at t own first after did run in
-      (so.0, record { is = so.1; tells = tells; built = built })
+      (so.0, record { is = so.1; tells = tells; declared = declared })
 
   pub latest_at : (result : Result ℕ Refusal) (own : List Event) (first after : StoreView) → DidLatest result own → IsRun f own first after
       → FindsLatest f h first after result
@@ -290,7 +287,7 @@ module _ (laws : Laws) (f : Files) (h : History) (folder : Folder f h) where
       absurd (omega (arith, same, all, high, above))
   cause_scan t from start first middle after (refusals.Expired id) has starts wider (asked, within, none) =
       let same : start - 1 ≡ id = cc in (
-        (t, starts.of.is, starts.of.tells, starts.of.built),
+        (t, starts.of.is, starts.of.tells, starts.of.declared),
         refl,
         sym same ∙ ap (λ (start : ℕ). start - 1) (starts.is ∙ ap (start_of from) (sym (count_is h))),
         within,
@@ -304,15 +301,6 @@ module _ (laws : Laws) (f : Files) (h : History) (folder : Folder f h) where
   read_caused from full first after (refusals.StoreFault path) is = is
   read_caused from full first after e is = absurd is
 
-  unbuilt_caused : (t : TableSchema) (from : Option ℕ) (full : Bool) (first after : StoreView) (e : Refusal) → IsTableOf t h → TellsChanges t
-      → (e ≡ refusals.Memory) ⊎ (unbuilt t ≡ Some e) → tables.MayRefuse h first after e → MayRefuse h from full first after e
-  unbuilt_caused t from full first after refusals.Memory is tells why may = tt
-  unbuilt_caused t from full first after refusals.NoTable is tells why may = may
-  unbuilt_caused t from full first after (refusals.StoreFault path) is tells why may = may
-  unbuilt_caused t from full first after (refusals.Unsupported what text) is tells (inl memory) may = absurd cc
-  unbuilt_caused t from full first after (refusals.Unsupported what text) is tells (inr why) may = (t, is, tells, why)
-  unbuilt_caused t from full first after e is tells why may = absurd may
-
   schema_refused : (from : Option ℕ) (full : Bool) (e : Refusal) (own : List Event) (first after : StoreView) → ShowsSchema e own → IsRun f own first after
       → Stay f first after × MayRefuse h from full first after e
   schema_refused from full e own first after (of_reader shows) run =
@@ -321,9 +309,6 @@ module _ (laws : Laws) (f : Files) (h : History) (folder : Folder f h) where
   schema_refused from full e own first after (of_producer t none is did) run =
       let so = schema_at t own first after did run in
       (so.0, subst (MayRefuse h from full first after) (sym is) (t, so.1, none))
-  schema_refused from full e own first after (of_unbuilt t tells why did) run =
-      let so = schema_at t own first after did run in
-      (so.0, unbuilt_caused t from full first after e so.1 tells why (judged_caused h first after t e so.1 why))
 
   record IsNewest (latest : ℕ) : Type 0 where
     followed : HasFollowedTable h
@@ -343,7 +328,7 @@ module _ (laws : Laws) (f : Files) (h : History) (folder : Folder f h) where
       (λ earlier middle. has_at t earlier first middle)
       (λ of later middle did wider run.
       let found = latest_at (Ok latest) later middle after did run in
-      (found.files, record { followed = (t, of.is, of.tells, of.built); newest = found.latest })) in
+      (found.files, record { followed = (t, of.is, of.tells, of.declared); newest = found.latest })) in
       (so.0, subst (MayRefuse h from full first after) (sym is) (so.1.followed, asked, so.1.newest, above))
   refused_at_first from full e own first after (of_table t start asked calls) run =
       let so = in_turn (StartsAt t from start) (MayRefuse h from true first after e) f own first after calls run

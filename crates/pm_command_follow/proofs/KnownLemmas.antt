@@ -251,7 +251,7 @@ first_of law s tells (table t es) full start first frames is base each = (
 
 -- the table tells its changes
 started_schema : (s : TableSchema) (from : Option ℕ) (start : ℕ) (own : List Event) → Starts s from start own → TellsChanges s
-started_schema s from start own (latest, (earlier, later, (tells, built, did), listed, is), at, low, high) = tells
+started_schema s from start own (latest, (earlier, later, (tells, declared, did), listed, is), at, low, high) = tells
 
 opened_schema : (s : TableSchema) (from : Option ℕ) (full : Bool) (start : ℕ) (text : List ℕ) (first after : StoreView)
     → HasTrace (Opens s from full start text) first after → TellsChanges s

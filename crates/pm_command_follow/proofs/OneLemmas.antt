@@ -9,9 +9,8 @@ use Rattle.pm_io.specs.Sink.{SinkView}
 use Rattle.pm_machine.specs.Step.{path_of}
 use Rattle.pm_machine.specs.Trace.{Event, faulted}
 use Rattle.pm_options.specs.declared.kinds.Producer.TheVariants as producers
+use Rattle.pm_schema.specs.Again.{IsDeclared}
 use Rattle.pm_schema.specs.declared.schema.TableSchema.{TableSchema}
-use Rattle.pm_draft.specs.Built.{IsBuilt, unbuilt}
-use Rattle.pm_draft.proofs.BuiltLemmas.{built-none}
 use Rattle.pm_read_schema.specs.Trace.{listed_snapshots}
 use Rattle.pm_read_schema.proofs.LeadLemmas.{Fails, IsAnswered, Leads, Stays, failed, failed_not, head_same, one_end, one_failed, one_lead, tail_same}
 use Rattle.pm_read_schema.proofs.OneLemmas as schema
@@ -40,19 +39,19 @@ use Rattle.pm_read_frame.specs.AllCalls.{DidFrame}
 use Rattle.pm_read_frame.specs.Trace.{HasFrame}
 use Rattle.pm_read_frame.proofs.OneLemmas as frame
 use Rattle.pm_command_follow.specs.Answer.{IsUnshown}
-use Rattle.pm_command_follow.specs.Follow.{DidTable, Ends, GoesOn, HasSchema, Lists, ReadsAll, ReadsFrames, ReadsTable, ShowsFirst, ShowsSchema, Starts, TellsChanges, all, fails_frame, fails_table, of_listing, of_producer, of_reader, of_schema, of_start, of_table, of_unbuilt, refused_first, refused_frame, refused_listing}
+use Rattle.pm_command_follow.specs.Follow.{DidTable, Ends, GoesOn, HasSchema, Lists, ReadsAll, ReadsFrames, ReadsTable, ShowsFirst, ShowsSchema, Starts, TellsChanges, all, fails_frame, fails_table, of_listing, of_producer, of_reader, of_schema, of_start, of_table, refused_first, refused_frame, refused_listing}
 use Rattle.pm_command_follow.specs.Printed.{count_from, start_of}
 use Rattle.pm_command_follow.proofs.StageLemmas.{Goes, IsOne, IsStage, one_behind}
 
 -- ---- the schema
 
 abbrev pub HasRead : TableSchema → List Event → Type 0
-HasRead s own = TellsChanges s × IsBuilt s × Leads schema.Goes own schema.listing (schema.ready s)
+HasRead s own = TellsChanges s × IsDeclared s × Leads schema.Goes own schema.listing (schema.ready s)
 
--- it is refused here, or its table doesn't tell its changes or isn't built
+-- it is refused here, or its table doesn't tell its changes
 abbrev IsRefusedAt : Refusal → schema.Place → Type 0
 IsRefusedAt e (schema.over other) = e ≡ other
-IsRefusedAt e (schema.ready s) = ((s.options.producer ≡ producers.None) × (e ≡ refusals.NoChangelog)) ⊎ (TellsChanges s × (unbuilt s ≡ Some e))
+IsRefusedAt e (schema.ready s) = (s.options.producer ≡ producers.None) × (e ≡ refusals.NoChangelog)
 IsRefusedAt e m = ⊥
 
 abbrev pub SchemaRefused : Refusal → List Event → Type 0
@@ -63,31 +62,24 @@ refused_ends e (schema.over other) is = tt
 refused_ends e (schema.ready s) is = tt
 refused_ends e m is = absurd is
 
-one_some : (e d : Refusal) → ◌≡◌ {A = Option Refusal} (Some e) (Some d) → e ≡ d
-one_some e d is = cc
-
 one_refused : (e d : Refusal) (m : schema.Place) → IsRefusedAt e m → IsRefusedAt d m → e ≡ d
 one_refused e d (schema.over other) is was = is ∙ sym was
-one_refused e d (schema.ready s) (inl (none, is)) (inl (also, was)) = is ∙ sym was
-one_refused e d (schema.ready s) (inl (none, is)) (inr (tells, why)) = absurd (tells none)
-one_refused e d (schema.ready s) (inr (tells, why)) (inl (none, is)) = absurd (tells none)
-one_refused e d (schema.ready s) (inr (tells, why)) (inr (also, because)) = one_some e d (sym why ∙ because)
+one_refused e d (schema.ready s) (none, is) (also, was) = is ∙ sym was
 one_refused e d m is was = absurd is
 
-built_not : (s : TableSchema) (e : Refusal) → TellsChanges s → IsBuilt s → IsRefusedAt e (schema.ready s) → ⊥
-built_not s e tells built (inl (none, is)) = tells none
-built_not s e tells built (inr (also, why)) = let clash : ◌≡◌ {A = Option Refusal} None (Some e) = sym (built-none s built) ∙ why in cc
+tells_not : (s : TableSchema) (e : Refusal) → TellsChanges s → IsRefusedAt e (schema.ready s) → ⊥
+tells_not s e tells (none, is) = tells none
 
 same_schema : (s t : TableSchema) (first other more rest : List Event) → HasRead s first → HasRead t other → first ++ more ≡ other ++ rest → (s ≡ t) × (more ≡ rest)
-same_schema s t first other more rest (tells, built, lead) (told, also, led) is =
+same_schema s t first other more rest (tells, declared, lead) (told, also, led) is =
     let end = one_end schema.Goes schema.IsEnd schema.are_one schema.ends_stay first other more rest schema.listing (schema.ready s) (schema.ready t) is lead tt led tt in
     (schema.one_ready s t end.1, end.2)
 
 schema_apart : (s : TableSchema) (first more : List Event) (e : Refusal) → HasRead s first → SchemaRefused e (first ++ more) → ⊥
-schema_apart s first more e (tells, built, lead) (m, led, refused) =
+schema_apart s first more e (tells, declared, lead) (m, led, refused) =
     let end = one_end schema.Goes schema.IsEnd schema.are_one schema.ends_stay first (first ++ more) more [] schema.listing (schema.ready s) m (sym (append-nil (first ++ more)))
     lead tt led (refused_ends e m refused) in
-    built_not s e tells built (subst (IsRefusedAt e) (sym end.1) refused)
+    tells_not s e tells (subst (IsRefusedAt e) (sym end.1) refused)
 
 one_schema : (e d : Refusal) (own : List Event) → SchemaRefused e own → SchemaRefused d own → e ≡ d
 one_schema e d own (m, lead, refused) (n, led, denied) =
@@ -372,7 +364,7 @@ module _ (laws : OneLaws) where
 -- ---- how far the calls come
 
 pub has_read : (s : TableSchema) (own : List Event) → HasSchema s own → HasRead s own
-has_read s own (tells, built, did) = (tells, built, schema.ready_lead s own did)
+has_read s own (tells, declared, did) = (tells, declared, schema.ready_lead s own did)
 
 -- frames that were read, and those that are left
 in_frames : (count left : ℕ) (s : TableSchema) (start : ℕ) (text : List ℕ) (own more : List Event) (x : Option Refusal) → ReadsFrames s start count text own
@@ -457,9 +449,7 @@ schema_refused e own (of_reader shows) = by (schema.is_shown e own shows)
     by (schema.of_memory memory) = inl memory
     by (schema.of_failure fails) = inr (inl fails)
     by (schema.of_place lead) = inr (inr (schema.over e, lead, refl))
-schema_refused e own (of_producer s none is did) = inr (inr (schema.ready s, schema.ready_lead s own did, inl (none, is)))
-schema_refused e own (of_unbuilt s tells (inl memory) did) = inl memory
-schema_refused e own (of_unbuilt s tells (inr why) did) = inr (inr (schema.ready s, schema.ready_lead s own did, inr (tells, why)))
+schema_refused e own (of_producer s none is did) = inr (inr (schema.ready s, schema.ready_lead s own did, (none, is)))
 
 pub listing_refused : (e : Refusal) (own : List Event) → DidLatest (Err e) own → IsElse ⊥ e own
 listing_refused e own shows = by (latests.shown e own shows)

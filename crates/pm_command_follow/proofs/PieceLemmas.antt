@@ -8,8 +8,8 @@ use Rattle.pm_store.specs.Store.{StoreView}
 use Rattle.pm_machine.specs.Trace.{Event, HasTrace, before_call}
 use Rattle.pm_machine.proofs.Facts.{Traces-none}
 use Rattle.pm_options.specs.declared.kinds.Producer.TheVariants as producers
+use Rattle.pm_schema.specs.Again.{IsDeclared}
 use Rattle.pm_schema.specs.declared.schema.TableSchema.{TableSchema}
-use Rattle.pm_draft.specs.Built.{IsBuilt, unbuilt}
 use Rattle.pm_read_schema.specs.AllCalls.{DidRead}
 use Rattle.pm_read_latest.specs.AllCalls.{DidLatest}
 use Rattle.pm_read_table.specs.declared.phase.Phase.TheVariants as views
@@ -17,7 +17,7 @@ use Rattle.pm_scan.specs.AllCalls as scanner
 use Rattle.pm_scan.specs.Asked.{passed_at}
 use Rattle.pm_read_frame.specs.AllCalls.{DidFrame}
 use Rattle.pm_command.specs.Outside as outside
-use Rattle.pm_command_follow.specs.Follow.{DidSchema, DidTable, HasEnded, HasSchema, Lists, Opens, ReadsFrames, Starts, Then, Took, all, fails_frame, fails_table, of_listing, of_producer, of_reader, of_schema, of_start, of_table, of_unbuilt, refused_first, refused_frame, refused_listing}
+use Rattle.pm_command_follow.specs.Follow.{DidSchema, DidTable, HasEnded, HasSchema, Lists, Opens, ReadsFrames, Starts, Then, Took, all, fails_frame, fails_table, of_listing, of_producer, of_reader, of_schema, of_start, of_table, refused_first, refused_frame, refused_listing}
 use Rattle.pm_command_follow.specs.Pieces.{HasPrinted, PrintsFrame, PrintsFrames, PrintsPiece, PrintsStart}
 use Rattle.pm_command_follow.specs.Printed.{count_from, start_of, table_head}
 use Rattle.pm_command_follow.proofs.JoinLemmas.{in_a_row, rose_wider}
@@ -32,13 +32,9 @@ pub producer_shown : (s : TableSchema) (store after : StoreView) → s.options.p
     → HasTrace (DidSchema (Err refusals.NoChangelog)) store after
 producer_shown s store after none (own, did, trace) = (own, of_producer s none refl did, trace)
 
-pub unbuilt_shown : (s : TableSchema) (e : Refusal) (store after : StoreView) → s.options.producer ≢ producers.None → (e ≡ refusals.Memory) ⊎ (unbuilt s ≡ Some e)
-    → HasTrace (DidRead (Ok s)) store after → HasTrace (DidSchema (Err e)) store after
-unbuilt_shown s e store after tells why (own, did, trace) = (own, of_unbuilt s tells why did, trace)
-
-pub schema_read : (s : TableSchema) (store after : StoreView) → s.options.producer ≢ producers.None → IsBuilt s → HasTrace (DidRead (Ok s)) store after
+pub schema_read : (s : TableSchema) (store after : StoreView) → s.options.producer ≢ producers.None → IsDeclared s → HasTrace (DidRead (Ok s)) store after
     → HasTrace (HasSchema s) store after
-schema_read s store after tells built (own, did, trace) = (own, (tells, built, did), trace)
+schema_read s store after tells declared (own, did, trace) = (own, (tells, declared, did), trace)
 
 pub schema_shown : (from : Option ℕ) (full : Bool) (e : Refusal) (out : SinkView) (store after : StoreView) → HasTrace (DidSchema (Err e)) store after
     → HasEnded from full out out store after (Some e)

@@ -1,5 +1,5 @@
 -- The rows of printed frames, replayed.
-use Rattle.std.proofs.Common.{◌≡◌, ◌≢◌, ◌↔◌, ℕ, zero, suc, ◌+◌, ◌-◌, ◌≤◌, ◌&&◌, not, Bool, true, false, List, [], ◌∷◌, ◌++◌, length, map, codes, Option, None, Some, option_map, Ok, IsTrue, IsUtf8, refl, sym, ap, subst, cond, eqb, ◌∙◌, append_assoc, arith}
+use Rattle.std.proofs.Common.{◌≡◌, ◌≢◌, ◌↔◌, ℕ, zero, suc, ◌+◌, ◌-◌, ◌≤◌, ◌&&◌, not, Bool, true, false, List, [], ◌∷◌, ◌++◌, length, map, codes, Option, None, Some, option_map, Ok, IsTrue, IsUtf8, refl, sym, ap, cond, eqb, ◌∙◌, append_assoc, arith}
 use Rattle.std.specs.FinMap.{get}
 use Rattle.std.specs.List.{AllByRecursion, filter, flat_map, range_with_len}
 use Rattle.std.specs.Ordering.{eq_by_cmp}

@@ -1,6 +1,5 @@
 -- Why a following is refused, whatever others do.
-use Rattle.std.proofs.Common.{◌≡◌, ◌⊎◌, inl, inr, ℕ, suc, ◌+◌, ◌-◌, ◌<◌, ◌≤◌, ◌==◌, ◌∷◌, [], Bool, true, false, codes, decimal, if◌then◌else◌, List, Option, None, Some, Err, refl, sym, ap, subst, ◌∙◌, arith}
-use Rattle.std.specs.Option.{option_or}
+use Rattle.std.proofs.Common.{◌≡◌, ◌⊎◌, inl, inr, ℕ, suc, ◌+◌, ◌-◌, ◌<◌, ◌≤◌, ◌∷◌, [], List, Option, None, Some, Err, refl, sym, subst, ◌∙◌, arith}
 use Rattle.pm_values.specs.declared.refusal.Refusal.{Refusal}
 use Rattle.pm_values.specs.declared.refusal.Refusal.TheVariants as refusals
 use Rattle.pm_io.specs.Sink.{SinkView}
@@ -9,7 +8,6 @@ use Rattle.pm_store.specs.Files.{Files}
 use Rattle.pm_store.specs.Store.{StoreView}
 use Rattle.pm_store.specs.declared.answer.Answer.TheVariants as answers
 use Rattle.pm_machine.specs.Trace.{Event, HasTrace, Traces}
-use Rattle.pm_options.specs.Written.{list_text}
 use Rattle.pm_options.specs.declared.kinds.Producer.TheVariants as producers
 use Rattle.pm_schema.specs.declared.schema.TableSchema.{TableSchema}
 use Rattle.pm_snapshot.specs.Names.{greatest}
@@ -17,7 +15,6 @@ use Rattle.pm_model_history.specs.History.{GoesOn, History, IsTableOf}
 use Rattle.pm_model_folder.specs.Ledger.{Past, Stands, count_of}
 use Rattle.pm_model_folder.specs.Paths.{snapshot_folder}
 use Rattle.pm_paths.specs.Ids.{IsLatest}
-use Rattle.pm_draft.specs.Built.{unbuilt, unbuilt_partition}
 use Rattle.pm_read_schema.specs.AllCalls.{DidRead}
 use Rattle.pm_read_schema.specs.Beside.{AnyPast, IsTold, Learns}
 use Rattle.pm_read_schema.specs.Reader.{snapshots_call}
@@ -30,7 +27,7 @@ use Rattle.pm_read_log.specs.Log.{LogAskedView, log_asked_of}
 use Rattle.pm_scan.specs.Beside.{TellsBeside}
 use Rattle.pm_read_frame.specs.AllCalls.{DidFrame}
 use Rattle.pm_read_frame.specs.Trace as frames
-use Rattle.pm_command_follow.specs.Follow.{DidTable, IsToldFrom, LearnsWhy, TellsChanges}
+use Rattle.pm_command_follow.specs.Follow.{DidTable, IsToldFrom, LearnsWhy}
 use Rattle.pm_command_follow.specs.Pieces.{IsCommittedOf, IsListed, LearnsBelow, LearnsTable, PrintsFrame, PrintsFrames, PrintsStart}
 use Rattle.pm_command_follow.proofs.LearnLemmas.{count_on, learns_never, learns_on, learns_with, table_on}
 
@@ -54,7 +51,6 @@ sink_not e is id latest other = let clash : refusals.SinkFault None ≡ refusals
 
 told_from : (from : Option ℕ) (e : Refusal) (f : Files) (p : Past) → NotAbove e → IsTold e f p → IsToldFrom from e f p
 told_from from refusals.NoChangelog f p not told = absurd told
-told_from from (refusals.Unsupported what text) f p not told = absurd told
 told_from from (refusals.NoSnapshot id latest) f p not told = absurd (not id latest refl)
 told_from from e f p not told = told
 
@@ -93,27 +89,6 @@ pub why_producer : (from : Option ℕ) (s : TableSchema) (before after : StoreVi
 why_producer from s before after none =
     learns-weaker AnyPast AnyPast (λ f p. IsTableOf s p.history) (IsToldFrom from refusals.NoChangelog) before after (λ f p known. known)
     (λ f p stands of. (s, of, none))
-
--- what isn't built is not supported
-unsupported_of : (one : Bool) (bucket : ℕ) (names : List (List ℕ)) (e : Refusal)
-    → option_or (if one then None else Some (refusals.Unsupported (codes "bucket") (decimal bucket))) (unbuilt_partition names) ≡ Some e
-    → (what : List ℕ) × (text : List ℕ) × (e ≡ refusals.Unsupported what text)
-unsupported_of true bucket [] e is = absurd (let clash : ◌≡◌ {A = Option Refusal} None (Some e) = is in cc)
-unsupported_of true bucket (name ∷ names) e is =
-    (codes "partitionKeys", list_text (name ∷ names), (let same : Some (refusals.Unsupported (codes "partitionKeys") (list_text (name ∷ names))) ≡ Some e = is in cc))
-unsupported_of false bucket names e is =
-    (codes "bucket", decimal bucket, (let same : Some (refusals.Unsupported (codes "bucket") (decimal bucket)) ≡ Some e = is in cc))
-
-pub why_unbuilt : (from : Option ℕ) (s : TableSchema) (e : Refusal) (before after : StoreView) → TellsChanges s → (e ≡ refusals.Memory) ⊎ (unbuilt s ≡ Some e)
-    → LearnsTable s before after → LearnsWhy from e before after
-why_unbuilt from s e before after tells (inl is) learned =
-    subst (λ (e : Refusal). LearnsWhy from e before after) (sym is)
-    (learns-weaker AnyPast AnyPast (λ f p. IsTableOf s p.history) (IsToldFrom from refusals.Memory) before after (λ f p known. known) (λ f p stands of. tt) learned)
-why_unbuilt from s e before after tells (inr why) learned =
-    let (what, text, is) = unsupported_of (s.options.bucket == 1) s.options.bucket s.partition e why in
-    subst (λ (e : Refusal). LearnsWhy from e before after) (sym is)
-    (learns-weaker AnyPast AnyPast (λ f p. IsTableOf s p.history) (IsToldFrom from (refusals.Unsupported what text)) before after (λ f p known. known)
-    (λ f p stands of. (s, of, tells, why ∙ ap Some is)) learned)
 
 -- ---- the listings
 

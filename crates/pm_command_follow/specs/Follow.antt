@@ -11,13 +11,13 @@ use Rattle.pm_store.specs.Files.{Files}
 use Rattle.pm_store.specs.Store.{StoreView, FromFirst}
 use Rattle.pm_machine.specs.Trace.{Event, HasTrace, Traces}
 use Rattle.pm_options.specs.declared.kinds.Producer.TheVariants as producers
+use Rattle.pm_schema.specs.Again.{IsDeclared}
 use Rattle.pm_schema.specs.declared.schema.TableSchema.{TableSchema}
 use Rattle.pm_model_history.specs.History.{Entry, History, IsTableOf, no_table, table}
 use Rattle.pm_model_following.specs.Following.{frame}
 use Rattle.pm_model_folder.specs.Folder.{Folder}
 use Rattle.pm_model_folder.specs.Ledger.{Past, count_of}
 use Rattle.pm_create.specs.Making.{LeavesFiles}
-use Rattle.pm_draft.specs.Built.{IsBuilt, unbuilt}
 use Rattle.pm_read_schema.specs.Beside.{AnyPast, IsTold, Learns}
 use Rattle.pm_read_schema.specs.Trace as reader
 use Rattle.pm_read_schema.specs.declared.phase.Phase.TheVariants as readers
@@ -40,17 +40,14 @@ Then First Next own = (earlier later : List Event) × First earlier × Next late
 abbrev pub TellsChanges : TableSchema → Type 0
 TellsChanges s = s.options.producer ≢ producers.None
 
--- the schema was read, of a table that tells its changes and is built
+-- the schema was read, of a table that tells its changes
 abbrev pub HasSchema : TableSchema → List Event → Type 0
-HasSchema s own = TellsChanges s × IsBuilt s × reader.Did (readers.Ready s) own
+HasSchema s own = TellsChanges s × IsDeclared s × reader.Did (readers.Ready s) own
 
--- Which calls show a refusal before that: those that read the schema; or its table doesn't tell its changes; or isn't
--- built, or memory ran out for saying so.
+-- which calls show a refusal before that: those that read the schema; or its table doesn't tell its changes
 pub data ShowsSchema (e : Refusal) (own : List Event) : Type 0 where
   of_reader : reader.Shows e own → ShowsSchema e own
   of_producer : (s : TableSchema) → s.options.producer ≡ producers.None → e ≡ refusals.NoChangelog
-      → reader.Did (readers.Ready s) own → ShowsSchema e own
-  of_unbuilt : (s : TableSchema) → TellsChanges s → (e ≡ refusals.Memory) ⊎ (unbuilt s ≡ Some e)
       → reader.Did (readers.Ready s) own → ShowsSchema e own
 
 -- the calls up to the schema, by what was made of them
@@ -164,14 +161,12 @@ LearnsFirst s full start count text before after = Learns AnyPast
     (λ f p. (entries : List Entry) × (p.history ≡ table s entries) × IsFirstOf s entries full start count text)
     before after
 
--- What a refusal tells of the files and of what they stand for, at the call that shows it: the table tells no changes,
--- or isn't built; the start that is asked for is above the one after the latest snapshot; or what any reader tells:
--- there is no table, or the snapshot that it names has gone. No file is damaged.
+-- What a refusal tells of the files and of what they stand for, at the call that shows it: the table tells no changes;
+-- the start that is asked for is above the one after the latest snapshot; or what any reader tells: there is no table,
+-- or the snapshot that it names has gone. No file is damaged.
 abbrev pub IsToldFrom : Option ℕ → Refusal → Files → Past → Type 0
 IsToldFrom from refusals.NoChangelog f p =
     (s : TableSchema) × IsTableOf s p.history × (s.options.producer ≡ producers.None)
-IsToldFrom from (refusals.Unsupported what text) f p =
-    (s : TableSchema) × IsTableOf s p.history × TellsChanges s × (unbuilt s ≡ Some (refusals.Unsupported what text))
 IsToldFrom from (refusals.NoSnapshot id latest) f p =
     (from ≡ Some id) × (suc latest < id) × (latest ≤ count_of p.history)
 IsToldFrom from e f p = IsTold e f p
@@ -212,9 +207,9 @@ Follows from full before after answer = IsFollowed from full before.out after.ou
 
 -- ---- a history that stands at its first call, where nobody else acts from then on
 
--- its table tells its changes and is built
+-- its table tells its changes
 abbrev pub HasFollowedTable : History → Type 0
-HasFollowedTable h = (s : TableSchema) × IsTableOf s h × TellsChanges s × IsBuilt s
+HasFollowedTable h = (s : TableSchema) × IsTableOf s h × TellsChanges s × IsDeclared s
 
 -- the file of a table's snapshot has gone
 abbrev pub HasGone : History → ℕ → StoreView → Type 0
@@ -229,17 +224,15 @@ pub record AreThere (s : TableSchema) (full : Bool) (start next : ℕ) (first : 
   pub base : full ≡ true → IsThere s (start - 1) first
   pub each : (id : ℕ) → start ≤ id → id < next → IsThere s id first
 
--- What a history may be refused for before anything is printed: there is no table, none that tells its changes, or none
--- that is built; the start that is asked for is too high; the snapshot of the starting table has gone; a fault of the
--- store was counted; or memory ran out.
+-- What a history may be refused for before anything is printed: there is no table, or none that tells its changes; the
+-- start that is asked for is too high; the snapshot of the starting table has gone; a fault of the store was counted;
+-- or memory ran out.
 abbrev pub MayRefuse : History → Option ℕ → Bool → StoreView → StoreView → Refusal → Type 0
 MayRefuse h from full first after refusals.Memory = Unit {0}
 MayRefuse h from full first after (refusals.StoreFault path) = Rose first.faults after.faults
 MayRefuse h from full first after refusals.NoTable = h ≡ no_table
 MayRefuse h from full first after refusals.NoChangelog =
     (s : TableSchema) × IsTableOf s h × (s.options.producer ≡ producers.None)
-MayRefuse h from full first after (refusals.Unsupported what text) =
-    (s : TableSchema) × IsTableOf s h × TellsChanges s × (unbuilt s ≡ Some (refusals.Unsupported what text))
 MayRefuse h from full first after (refusals.NoSnapshot id latest) =
     HasFollowedTable h × (from ≡ Some id) × (latest ≡ count_of h) × (suc latest < id)
 MayRefuse h from full first after (refusals.Expired id) =

@@ -16,7 +16,6 @@ ghost use Rattle.pm_command_follow.specs.Printed.{start_of};
 
 use crate::laws::{follow_law, pieces_law};
 use crate::pieces::{print_frames, print_table};
-use pm_command::judge;
 use pm_io::Sink;
 use pm_model_folder::past_law;
 use pm_options::Producer;
@@ -30,7 +29,7 @@ use std::alloc::Global;
 /// Prints how the snapshots of a table change it, from the one with that id on, or after the newest; and before that,
 /// where it is asked for in full, the table that is passed on at the one below. Whatever others do meanwhile, this is a
 /// prefix of what is printed of the history. Refuses with `NoTable`; `NoChangelog`, before any call after the schema's,
-/// where the table has no producer; `Unsupported`; `NoSnapshot` for a start above the newest and one; `Expired` for a
+/// where the table has no producer; `NoSnapshot` for a start above the newest and one; `Expired` for a
 /// snapshot that has gone; `StoreFault`; `SinkFault`; or out of memory. Whatever others do, what a refusal tells is so
 /// at the call that shows it. Where the files are damaged it passes on what their readers refuse.
 pub fn run_follow<W: Sink, F: FileStore>(
@@ -53,8 +52,8 @@ pub fn run_follow<W: Sink, F: FileStore>(
     follow_table(alloc, &schema, from, full, out, store)
 }
 
-/// The schema of a table that tells its changes and is built. Refuses with `NoTable`; `NoChangelog` where it has no
-/// producer; `Unsupported`; `StoreFault`; or out of memory, and with what reading the schema refuses.
+/// The schema of a table that tells its changes. Refuses with `NoTable`; `NoChangelog` where it has no producer;
+/// `StoreFault`; or out of memory, and with what reading the schema refuses.
 pub fn followed_schema<F: FileStore>(alloc: Global, store: &mut F) -> Result<TableSchema, Refusal>
     ensures trace { HasTrace (DidSchema result) (F.seen store.old) (F.seen store.new) }
     ensures beside { IfOk result (λ s. LearnsTable s (F.seen store.old) (F.seen store.new)) }
@@ -66,7 +65,6 @@ pub fn followed_schema<F: FileStore>(alloc: Global, store: &mut F) -> Result<Tab
     if let Producer::None = schema.options.producer {
         return Err(Refusal::NoChangelog);
     }
-    judge(alloc, &schema)?;
     Ok(schema)
 }
 

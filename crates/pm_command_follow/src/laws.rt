@@ -26,7 +26,6 @@ ghost use Rattle.pm_command_follow.specs.Printed.{LeadFrom, LeadOn, count_from, 
 ghost use Rattle.pm_command_follow.specs.Printed.{table_head};
 
 use pm_avro_file::one_opening_law;
-use pm_draft::built_law;
 use pm_manifest::{Entry, ManifestMeta, joined_law};
 use pm_model_contents::one_runs_law;
 use pm_model_following::{finished_law, frames_law, kept_law};
@@ -45,7 +44,6 @@ pub fn follow_law()
     pm_read_latest::all_calls_law();
     pm_scan::all_calls_law();
     pm_read_frame::all_calls_law();
-    built_law();
     schema_law();
     declared_law();
 }
@@ -82,16 +80,14 @@ pub fn replay_law()
 }
 
 /// Where the snapshots that it has to print are there, from a start that isn't too high, of a table that tells its
-/// changes and is built, and no fault of the store or of the sink was counted, all is printed, or memory ran out.
+/// changes, and no fault of the store or of the sink was counted, all is printed, or memory ran out.
 pub fn complete_law()
     ensures { (s : TableSchema) (entries : List Commit) (from : Option ℕ) (full : Bool) (first last : StoreView)
         (before after : SinkView) (answer : Option Refusal)
         → FollowsTable (table s entries) from full first last before after answer
         → MayPrintAll s entries from full first → (Rose first.faults last.faults → ⊥) → (SinkFailed before after → ⊥)
         → PrintsAll s entries from full first before after answer }
-{
-    built_law();
-}
+{}
 
 /// Whatever others do meanwhile, pieces that were each known of the history as it was then are a prefix of what is
 /// printed of the history from their start on, however far it has gone on: no frame between them is left out, and none

@@ -7,7 +7,6 @@ returns c = consumes (record {
     latest = c.all_calls_law.ensures;
     passed = c.all_calls_law-4.ensures.passed;
     frames = c.all_calls_law-5.ensures;
-    built = c.built_law.ensures;
     read = c.schema_law.ensures.exact;
     declared = c.declared_law.ensures.file;
   };

@@ -6,7 +6,6 @@ returns c = follows (record {
   latest = c.all_calls_law.ensures;
   passed = c.all_calls_law-2.ensures.passed;
   frames = c.all_calls_law-3.ensures;
-  built = c.built_law.ensures;
   read = c.schema_law.ensures.exact;
   declared = c.declared_law.ensures.file;
 })
