@@ -1,11 +1,10 @@
 -- The machines of a following, one after another.
 use Rattle.std.proofs.Common.{◌≡◌, ℕ, ◌+◌, ◌<◌, ◌≤◌, List, [], ◌∷◌, ◌++◌, length, Vec, refl, sym, ap, subst, ◌∙◌, arith}
-use Rattle.std.specs.List.{AllByRecursion}
 use Rattle.std.specs.Global.{Global}
 use Rattle.pm_schema.specs.declared.schema.TableSchema.{TableSchema}
 use Rattle.pm_store.specs.Files.{Files}
 use Rattle.pm_model_history.specs.History.{History, IsTableOf}
-use Rattle.pm_model_folder.specs.Changes.{Actor, IsPlain}
+use Rattle.pm_model_folder.specs.Changes.{Actor, HavePlainNames}
 use Rattle.pm_model_folder.specs.Consumers.{frame_in}
 use Rattle.pm_model_folder.specs.Ledger.{Past, Stands}
 use Rattle.pm_read_latest.specs.declared.phase.Phase.TheVariants as finders
@@ -52,13 +51,13 @@ module _ (laws : FrameLaws) (me : Actor) (x : Followed) (text : Vec ℕ Global) 
 
 -- what was read is the frame, so a consumer that reads this snapshot next may be moved past it
 pub moves_knows : (m : Move) (x : Followed) (text : Vec ℕ Global) (f : Files) (p : Past) → Knows (follows m.me x (followers.Ready m.moving.next text)) f p
-    → HasProducer x.schema → IsMoving m.moving → m.text ≡ text.items → Knows (moves m (new_mover m.moving)) f p
-moves_knows m x text f p (known, is) log moving same =
+    → HasProducer x.schema → HavePlainNames x.schema → IsMoving m.moving → m.text ≡ text.items → Knows (moves m (new_mover m.moving)) f p
+moves_knows m x text f p (known, is) log plain moving same =
     let schema = subst (IsTableOf x.schema) is.is_table known.table in (
       moving,
       (refl, refl, refl),
       record {
-        table = (x.schema, known.table, subst (AllByRecursion IsPlain) (sym log.partition) tt);
+        table = (x.schema, known.table, plain);
         within = is.known.to;
         frame = same ∙ is.is_text (subst HasProducer (sym schema) log) ∙ sym (ap (λ h. frame_in h m.moving.next) is.is_table);
       },

@@ -11,7 +11,7 @@ ghost use Rattle.pm_compactor.specs.declared.phase.Phase.{Phase as CompactPhase}
 ghost use Rattle.pm_expire.specs.declared.phase.Phase.{Phase as ExpirePhase};
 ghost use Rattle.pm_machine.specs.Moves.{Keeps, Lasts};
 ghost use Rattle.pm_model_consumers.specs.Changes.{HasLost};
-ghost use Rattle.pm_model_folder.specs.Changes.{Actor};
+ghost use Rattle.pm_model_folder.specs.Changes.{Actor, HavePlainNames};
 ghost use Rattle.pm_model_folder.specs.Consumers.{follower_of};
 ghost use Rattle.pm_model_folder.specs.Folder.{Folder};
 ghost use Rattle.pm_model_folder.specs.Ledger.{Past, Stands};
@@ -114,8 +114,8 @@ pub fn follow_law()
         → Knows (follows me x (followers.Ready (x.start + length x.frames) text)) f p
         → Knows (follows me (with_frame x text.items) followers.Over) f p }
     ensures moves { (m : Move) (x : Followed) (text : Vec ℕ Global) (f : Files) (p : Past)
-        → Knows (follows m.me x (followers.Ready m.moving.next text)) f p → HasProducer x.schema → IsMoving m.moving
-        → m.text ≡ text.items → Knows (moves m (new_mover m.moving)) f p }
+        → Knows (follows m.me x (followers.Ready m.moving.next text)) f p → HasProducer x.schema → HavePlainNames x.schema
+        → IsMoving m.moving → m.text ≡ text.items → Knows (moves m (new_mover m.moving)) f p }
 {
     frames_law();
 }

@@ -49,7 +49,6 @@ use Rattle.pm_command_consume.specs.declared.place.Standing.TheVariants as stand
 use Rattle.pm_command_consume.proofs.BringLemmas.{bring_known, bring_none, bring_then, bring_weaker, bring_with, learned, registers_step, steps_still, why_brings}
 use Rattle.pm_command_consume.proofs.PieceLemmas.{HasJoined, opens_with, opens_without, settled_at}
 
-
 -- ---- calls one after another
 
 any_twice : (first middle after : StoreView) → HasTrace (λ own. Unit {0}) first middle → HasTrace (λ own. Unit {0}) middle after → HasTrace (λ own. Unit {0}) first after

@@ -6,7 +6,7 @@ use Rattle.pm_values.specs.declared.refusal.Refusal.TheVariants as refusals
 use Rattle.pm_machine.specs.Trace.{HasTrace}
 use Rattle.pm_commit.specs.AllCalls.{AppendsTables, DidAppend}
 use Rattle.pm_command_write.specs.Write.{commit_of}
-use Rattle.pm_command_write.proofs.WriteLaws.{IsTakenOf, appended_keeps, appended_trace, lines_keeps, lines_refused, none_taken, nothing_keeps, nothing_trace, read_keeps, some_taken, why_refused}
+use Rattle.pm_command_write.proofs.WriteLaws.{IsTakenOf, appended_keeps, appended_trace, few_read, lines_keeps, lines_refused, none_taken, nothing_keeps, nothing_trace, read_keeps, some_taken, why_refused}
 use Rattle.pm_command_write.proofs.write.append_lines.Goals as goal
 
 pub returns-in_err-schema-clause-history : goal.returns-in_err-schema-clause-history
@@ -49,6 +49,10 @@ returns-then-is_empty-clause-history g c =
     (g.F.FileStore.seen c.args.store.now) (g.F.FileStore.seen c.read_table_schema.new.store)
     (none_taken c.batch_law.ensures.empty c.in_ok-schema.schema lines c.in_ok-batch.batch c.in_ok-batch.ensures (c.is_empty.ensures.0 c.if-is_empty.true))
     c.in_ok-schema.ensures.history
+
+pub committer_of-requires-clause-few : goal.committer_of-requires-clause-few
+committer_of-requires-clause-few g c =
+    few_read c.batch_law.ensures.few c.batch_law.ensures.room c.in_ok-schema.schema c.args.lines c.in_ok-batch.batch c.in_ok-batch.ensures
 
 pub returns-in_err-committer-clause-history : goal.returns-in_err-committer-clause-history
 returns-in_err-committer-clause-history g c =
