@@ -1,5 +1,5 @@
 -- What a command promises that ran out of memory before it did anything.
-use Rattle.std.proofs.Common.{inl, inr, ℕ, Bool, List, [], Option, None, Some, IfSome, Err, refl}
+use Rattle.std.proofs.Common.{inl, ℕ, Bool, List, [], Option, None, Some, IfSome, Err, refl}
 use Rattle.pm_values.specs.declared.refusal.Refusal.{Refusal}
 use Rattle.pm_values.specs.declared.refusal.Refusal.TheVariants as refusals
 use Rattle.pm_io.specs.Sink.{SinkView}
