@@ -114,8 +114,9 @@ pub fn follow_law()
         → Knows (follows me x (followers.Ready (x.start + length x.frames) text)) f p
         → Knows (follows me (with_frame x text.items) followers.Over) f p }
     ensures moves { (m : Move) (x : Followed) (text : Vec ℕ Global) (f : Files) (p : Past)
-        → Knows (follows m.me x (followers.Ready m.moving.next text)) f p → HasProducer x.schema → HavePlainNames x.schema
-        → IsMoving m.moving → m.text ≡ text.items → Knows (moves m (new_mover m.moving)) f p }
+        → Knows (follows m.me x (followers.Ready m.moving.next text)) f p → HasProducer x.schema
+        → HavePlainNames x.schema → IsMoving m.moving → m.text ≡ text.items
+        → Knows (moves m (new_mover m.moving)) f p }
 {
     frames_law();
 }

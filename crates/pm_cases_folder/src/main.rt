@@ -8,7 +8,7 @@
 //! | `lines` | the number of a read that fails, or 0; a text | the lines that aren't blank, or why not |
 //! | `created` | a name, a draft | `create` through one store of that folder and through another, then `snapshots` |
 //! | `scanned` | a name; paths, each with a file's bytes | `scan` of that folder, in which these files were created |
-//! | `writers` | a name, the table's commits, two row lines | two writers of that folder in turn, by `pm_cases_rivals` |
+//! | `writers` | a name, the table's commits, two row lines | two writers of it in turn, by `pm_cases_rivals` |
 //! | `compactors` | a name, the table's commits, a row line | two compactors and a writer in turn, by the same crate |
 //!
 //! Arguments are spelt as those of `pm_cases_codecs`.

@@ -145,8 +145,8 @@ StandsAfterFault start full h first path f = Folder f h ⊎ ((path ≡ next_path
 -- What a refusal needs, and what stands after it: after a fault of the store, which was counted, the history, or where
 -- it was the publish's the history with the compaction; else the history, and but where memory ran out or a file of the
 -- actor's name was met nothing changed. There is no table; a file of the actor's name was there at first; or the newest
--- snapshot leaves the compaction no room. No other comes: nobody else took a file that goes, no fence is above the newest
--- snapshot, and no file is damaged.
+-- snapshot leaves the compaction no room. No other comes: nobody else took a file that goes, no fence is above the
+-- newest snapshot, and no file is damaged.
 abbrev pub Spoils : Start → Bool → History → StoreView → StoreView → Refusal → Type 0
 Spoils start full h first after refusals.Memory = LeavesFiles (λ f. Folder f h) after
 Spoils start full h first after (refusals.StoreFault path) =

@@ -79,7 +79,8 @@ IsThere h id first = (id ≤ count_of h)
 abbrev pub HasTable : History → Type 0
 HasTable h = (s : TableSchema) × IsTableOf s h × IsDeclared s
 
--- What a history may be refused for: the snapshot that is asked for is above the newest or has gone; or why each command may refuse a table (`MayRefuse` of `pm_command`).
+-- What a history may be refused for: the snapshot that is asked for is above the newest or has gone; or why each
+-- command may refuse a table (`MayRefuse` of `pm_command`).
 abbrev pub MayRefuse : History → Option ℕ → StoreView → StoreView → Refusal → Type 0
 MayRefuse h at first after (refusals.NoSnapshot id latest) =
     HasTable h × (at ≡ Some id) × (latest ≡ count_of h) × (latest < id)

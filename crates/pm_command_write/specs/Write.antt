@@ -95,7 +95,8 @@ AppendsLines start w lines made own =
     × (rows ≢ []) × IsBatchOf s rows batch × DidAppend s (commit_of start w batch) made own
 
 -- Its calls of the store, by what became of the lines: of no row none follows the schema, and the others are those of a
--- commit; or they show why no schema was read, or end where a line is refused, or are those of a commit that was refused.
+-- commit; or they show why no schema was read, or end where a line is refused, or are those of a commit that was
+-- refused.
 abbrev pub DidWrite : Start → Writer → Lines → Result Written Refusal → List Event → Type 0
 DidWrite start w lines (Ok written.Nothing) own = (s : TableSchema) × (all_taken s lines ≡ Ok []) × HasDeclared s own
 DidWrite start w lines (Ok written.Already) own = AppendsLines start w lines (Ok appends.Already) own
@@ -219,8 +220,8 @@ StandsAfterFault start w lines h path f = Folder f h ⊎ ((path ≡ next_path h)
 
 -- What a refusal of the work needs, and what stands after it: after a fault of the store, which was counted, the
 -- history, or where it was the publish's the history with the rows; else the history, and but where memory ran out or a
--- file of the actor's name was met nothing changed. There is no table; a line is refused; a file of the actor's name was
--- there at first; or the newest snapshot gives this reason against the commit. No other comes.
+-- file of the actor's name was met nothing changed. There is no table; a line is refused; a file of the actor's name
+-- was there at first; or the newest snapshot gives this reason against the commit. No other comes.
 abbrev pub Spoils : Start → Writer → Lines → History → StoreView → StoreView → Refusal → Type 0
 Spoils start w lines h first after refusals.Memory = Stays h after
 Spoils start w lines h first after (refusals.StoreFault path) =
