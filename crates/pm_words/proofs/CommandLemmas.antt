@@ -7,8 +7,8 @@ use Rattle.std.specs.Str.{bytes_eq}
 use Rattle.std.proofs.lemmas.Fmt.{decimal_injective}
 use Rattle.std.proofs.lemmas.Slice.Eq.{bytes_eq-Decides}
 use Rattle.pm_words.specs.Clap.{HasNoOptions, IsGiven, flag, has_bytes, may_stand, value}
-use Rattle.pm_words.specs.Reading.{AreOfCommand, Finds, GiveAfter, GiveRetained, IsNameOf, IsNumberOf}
-use Rattle.pm_words.specs.Words.{AreInOrder, AreOf, AreOptions, CommandOption, Give, GiveEach, GiveFlag, GiveName, GiveNoCommand, GiveNumber, IsRetained, after_equals, begins_with_hyphen, given, is_among, names_of, word_of}
+use Rattle.pm_words.specs.Reading.{AreOfCommand, Finds, GiveAfter, GiveBetween, GiveRetained, IsNameOf, IsNumberOf}
+use Rattle.pm_words.specs.Words.{AreInOrder, AreOf, AreOptions, CommandOption, Give, GiveEach, GiveFlag, GiveName, GiveNoCommand, GiveNumber, IsRetained, after_equals, begins_with_hyphen, given, greatest_number, is_among, most_batch_rows, most_batches, names_of, word_of}
 use Rattle.pm_words.specs.declared.command.Command.{Command}
 use Rattle.pm_words.specs.declared.command.Command.TheVariants as commands
 use Rattle.pm_words.proofs.OptionLemmas.{one_list}
@@ -40,6 +40,9 @@ one_number options option (Some a) (Some b) one other =
 one_number options option None (Some b) one other = absurd cc
 one_number options option (Some a) None one other = absurd cc
 
+one_given : (options : List CommandOption) (option : List ℕ) (a b : ℕ) → GiveNumber options option (Some a) → GiveNumber options option (Some b) → a ≡ b
+one_given options option a b one other = let same = one_number options option (Some a) (Some b) one other in cc
+
 -- a word and options are those of one command
 one_of : (word : List ℕ) (options : List CommandOption) (a b : Command) → AreOfCommand word options a → AreOfCommand word options b → a ≡ b
 one_of word options commands.Create commands.Create one other = refl
@@ -53,6 +56,10 @@ one_of word options (commands.Follow m c a) (commands.Follow n d b) one other =
     ap₂ (λ (from : Option ℕ) (full : Bool). commands.Follow from c full) (one_number options (codes "from") m n one.values.0 other.values.0)
     (one_flag options (codes "full") a b one.values.2 other.values.2)
     ∙ ap (λ (consumer : Option (List ℕ)). commands.Follow n consumer b) (one_name options (codes "consumer") c d one.values.1 other.values.1)
+one_of word options (commands.Generate a m k) (commands.Generate b n l) one other =
+    ap₂ (λ (batches rows : ℕ). commands.Generate batches rows k) (one_given options (codes "batches") a b one.values.0 other.values.0)
+    (one_given options (codes "rows") m n one.values.1 other.values.1)
+    ∙ ap (commands.Generate b n) (one_given options (codes "seed") k l one.values.2 other.values.2)
 one_of word options (commands.Scan a) (commands.Scan b) one other = ap commands.Scan (one_number options (codes "snapshot") a b one.values other.values)
 one_of word options commands.Snapshots commands.Snapshots one other = refl
 one_of word options (commands.Write a m) (commands.Write b n) one other =
@@ -157,6 +164,14 @@ module _ (words : List (List ℕ)) where
   )
   no_follow none other after = apart (codes "follow") (word_of other) refl after.of.first
 
+  pub no_generate : HasNoOptions (value (codes "batches") ∷ value (codes "rows") ∷ value (codes "seed") ∷ []) words → (command : Command)
+      → GiveAfter (codes "generate") words command → ⊥
+  no_generate none (commands.Generate batches rows seed) after = none after.options after.are after.of.names (
+    number_is after.options (codes "batches") (Some batches) after.of.values.0,
+    (number_is after.options (codes "rows") (Some rows) after.of.values.1, (number_is after.options (codes "seed") (Some seed) after.of.values.2, tt)),
+  )
+  no_generate none other after = apart (codes "generate") (word_of other) refl after.of.first
+
   pub no_scan : HasNoOptions (value (codes "snapshot") ∷ []) words → (command : Command) → GiveAfter (codes "scan") words command → ⊥
   no_scan none (commands.Scan snapshot) after = none after.options after.are after.of.names (number_is after.options (codes "snapshot") snapshot after.of.values, tt)
   no_scan none other after = apart (codes "scan") (word_of other) refl after.of.first
@@ -218,6 +233,23 @@ module _ (words : List (List ℕ)) where
       omega (arith, low, zero)
   from_zero options are n zero gives other after = apart (codes "follow") (word_of other) refl after.of.first
 
+  pub no_batches : (options : List CommandOption) → AreOptions options words → Finds (GiveBetween options (codes "batches") 0 most_batches) None → (command : Command) → GiveAfter (codes "generate") words command → ⊥
+  no_batches options are none (commands.Generate batches rows seed) after =
+      none batches (subst (λ os. GiveNumber os (codes "batches") (Some batches)) (same_options options are (codes "generate") (commands.Generate batches rows seed) after) after.of.values.0,
+      omega arith, after.of.values.3.0)
+  no_batches options are none other after = apart (codes "generate") (word_of other) refl after.of.first
+
+  pub no_rows : (options : List CommandOption) → AreOptions options words → Finds (GiveBetween options (codes "rows") 1 most_batch_rows) None → (command : Command) → GiveAfter (codes "generate") words command → ⊥
+  no_rows options are none (commands.Generate batches rows seed) after =
+      none rows (subst (λ os. GiveNumber os (codes "rows") (Some rows)) (same_options options are (codes "generate") (commands.Generate batches rows seed) after) after.of.values.1, after.of.values.3.1, after.of.values.3.2)
+  no_rows options are none other after = apart (codes "generate") (word_of other) refl after.of.first
+
+  pub no_seed : (options : List CommandOption) → AreOptions options words → Finds (GiveBetween options (codes "seed") 0 greatest_number) None → (command : Command) → GiveAfter (codes "generate") words command → ⊥
+  no_seed options are none (commands.Generate batches rows seed) after =
+      let gives = subst (λ os. GiveNumber os (codes "seed") (Some seed)) (same_options options are (codes "generate") (commands.Generate batches rows seed) after) after.of.values.2 in
+      none seed (gives, omega arith, gives.1)
+  no_seed options are none other after = apart (codes "generate") (word_of other) refl after.of.first
+
   pub no_snapshot : (options : List CommandOption) → AreOptions options words → Finds (GiveNumber options (codes "snapshot")) None → (command : Command) → GiveAfter (codes "scan") words command → ⊥
   no_snapshot options are none (commands.Scan snapshot) after =
       none snapshot (subst (λ os. GiveNumber os (codes "snapshot") snapshot) (same_options options are (codes "scan") (commands.Scan snapshot) after) after.of.values)
@@ -268,6 +300,16 @@ number_found options name text None gives none = go
 pub not_retained : (options : List CommandOption) (name : List ℕ) (number : Option ℕ) → GiveNumber options name number → (IsRetained number → ⊥) → (x : Option ℕ) → GiveRetained options name x → ⊥
 not_retained options name number gives none x is = none (subst IsRetained (one_number options name x number is.0 gives) is.1)
 
+-- a number that isn't between these
+pub not_between : (options : List CommandOption) (name : List ℕ) (least greatest number : ℕ) → GiveNumber options name (Some number) → ((least ≤ number) × (number ≤ greatest) → ⊥)
+    → (x : ℕ) → GiveBetween options name least greatest x → ⊥
+not_between options name least greatest number gives none x is =
+    none (subst (λ n. (least ≤ n) × (n ≤ greatest)) (one_given options name x number is.0 gives) (is.1, is.2))
+
+-- none is given
+pub none_between : (options : List CommandOption) (name : List ℕ) (least greatest : ℕ) → GiveNumber options name None → (x : ℕ) → GiveBetween options name least greatest x → ⊥
+none_between options name least greatest gives x is = let same = one_number options name None (Some x) gives is.0 in absurd cc
+
 -- ---- words that may stand
 
 plain_stands : (word : List ℕ) → begins_with_hyphen word ≡ false → may_stand word ≡ true
@@ -311,6 +353,7 @@ names_have (commands.Compact full) = refl
 names_have (commands.Consumers dropped) = refl
 names_have (commands.Expire min max millis) = refl
 names_have (commands.Follow from consumer full) = refl
+names_have (commands.Generate batches rows seed) = refl
 names_have (commands.Scan snapshot) = refl
 names_have commands.Snapshots = refl
 names_have (commands.Write user identifier) = refl

@@ -6,7 +6,7 @@ use Rattle.clap.specs.Simple.{App, new_shape, with_rule}
 use Rattle.clap.specs.Walk.{Rule}
 use Rattle.clap.specs.declared.builder.arg.Arg.{Arg}
 use Rattle.clap.specs.declared.builder.command.Command.{Command}
-use Rattle.pm_words.specs.Clap.{Declared, HasDeclared, app_for, compact_options, consumers_options, expire_options, follow_options, scan_options, told_of, write_options}
+use Rattle.pm_words.specs.Clap.{Declared, HasDeclared, app_for, compact_options, consumers_options, expire_options, follow_options, generate_options, scan_options, told_of, write_options}
 
 -- a command with these rules alone
 abbrev app_with : List ℕ → List Rule → App
@@ -36,6 +36,9 @@ expire_has a is = subst (λ a. HasDeclared a expire_options) (sym is) (record { 
 
 pub follow_has : (a : App) → a ≡ app_for (codes "follow") follow_options → HasDeclared a follow_options
 follow_has a is = subst (λ a. HasDeclared a follow_options) (sym is) (record { named = refl; simple = refl; name = codes "follow"; built = refl; words = refl })
+
+pub generate_has : (a : App) → a ≡ app_for (codes "generate") generate_options → HasDeclared a generate_options
+generate_has a is = subst (λ a. HasDeclared a generate_options) (sym is) (record { named = refl; simple = refl; name = codes "generate"; built = refl; words = refl })
 
 pub scan_has : (a : App) → a ≡ app_for (codes "scan") scan_options → HasDeclared a scan_options
 scan_has a is = subst (λ a. HasDeclared a scan_options) (sym is) (record { named = refl; simple = refl; name = codes "scan"; built = refl; words = refl })

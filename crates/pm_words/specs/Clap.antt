@@ -51,6 +51,9 @@ expire_options = value (codes "min") ∷ value (codes "max") ∷ value (codes "m
 abbrev pub follow_options : List Declared
 follow_options = value (codes "from") ∷ value (codes "consumer") ∷ flag (codes "full") ∷ []
 
+abbrev pub generate_options : List Declared
+generate_options = value (codes "batches") ∷ value (codes "rows") ∷ value (codes "seed") ∷ []
+
 abbrev pub scan_options : List Declared
 scan_options = value (codes "snapshot") ∷ []
 

@@ -22,6 +22,11 @@ IsNameOf text name = IsName name × (text ≡ name)
 abbrev pub GiveRetained : List CommandOption → List ℕ → Option ℕ → Type 0
 GiveRetained options option number = GiveNumber options option number × IsRetained number
 
+-- Private: the option is given with a number between these
+abbrev pub GiveBetween : List CommandOption → List ℕ → ℕ → ℕ → ℕ → Type 0
+GiveBetween options option least greatest number =
+    GiveNumber options option (Some number) × (least ≤ number) × (number ≤ greatest)
+
 -- Private: the word and the options are those of the command
 pub record AreOfCommand (word : List ℕ) (options : List CommandOption) (command : Command) : Type 0 where
   pub first : word ≡ word_of command

@@ -69,6 +69,13 @@ greatest_number = 9223372036854775807
 abbrev pub greatest_retained : ℕ
 greatest_retained = 2147483647
 
+-- the most batches that can be drawn, and the most rows of each
+abbrev pub most_batches : ℕ
+most_batches = 1000
+
+abbrev pub most_batch_rows : ℕ
+most_batch_rows = 10000
+
 -- the option is given with this name, or it isn't given
 abbrev pub GiveName : List CommandOption → List ℕ → Option (List ℕ) → Type 0
 GiveName options option name = (given option options ≡ option_map Some name) × IfSome name IsName
@@ -106,6 +113,7 @@ word_of (commands.Compact full) = codes "compact"
 word_of (commands.Consumers dropped) = codes "consumers"
 word_of (commands.Expire min max millis) = codes "expire"
 word_of (commands.Follow from consumer full) = codes "follow"
+word_of (commands.Generate batches rows seed) = codes "generate"
 word_of (commands.Scan snapshot) = codes "scan"
 word_of commands.Snapshots = codes "snapshots"
 word_of (commands.Write user identifier) = codes "write"
@@ -117,6 +125,7 @@ names_of (commands.Compact full) = codes "full" ∷ []
 names_of (commands.Consumers dropped) = codes "drop" ∷ []
 names_of (commands.Expire min max millis) = codes "min" ∷ codes "max" ∷ codes "millis" ∷ []
 names_of (commands.Follow from consumer full) = codes "from" ∷ codes "consumer" ∷ codes "full" ∷ []
+names_of (commands.Generate batches rows seed) = codes "batches" ∷ codes "rows" ∷ codes "seed" ∷ []
 names_of (commands.Scan snapshot) = codes "snapshot" ∷ []
 names_of commands.Snapshots = []
 names_of (commands.Write user identifier) = codes "user" ∷ codes "ident" ∷ []
@@ -133,12 +142,17 @@ AreInOrder min max = IfSome min (λ least. IfSome max (λ greatest. least ≤ gr
 abbrev pub AreRetained : Option ℕ → Option ℕ → Type 0
 AreRetained min max = IsRetained min × IsRetained max × AreInOrder min max
 
--- its names and numbers are those that it takes: a consumer's name, numbers of snapshots to be kept, and a first
--- snapshot from 1 on
+-- so many batches of so many rows can be drawn
+abbrev pub CanDraw : ℕ → ℕ → Type 0
+CanDraw batches rows = (batches ≤ most_batches) × (1 ≤ rows) × (rows ≤ most_batch_rows)
+
+-- its names and numbers are those that it takes: a consumer's name, numbers of snapshots to be kept, a first snapshot
+-- from 1 on, and batches that can be drawn
 abbrev pub IsInRange : Command → Type 0
 IsInRange (commands.Consumers dropped) = IfSome dropped IsName
 IsInRange (commands.Expire min max millis) = AreRetained min max
 IsInRange (commands.Follow from consumer full) = IfSome from (λ id. 1 ≤ id) × IfSome consumer IsName
+IsInRange (commands.Generate batches rows seed) = CanDraw batches rows
 IsInRange other = Unit {0}
 
 -- what each of them gives
@@ -151,6 +165,9 @@ GiveEach options (commands.Expire min max millis) = GiveNumber options (codes "m
 GiveEach options (commands.Follow from consumer full) = GiveNumber options (codes "from") from
     × GiveName options (codes "consumer") consumer × GiveFlag options (codes "full") full
     × IfSome from (λ id. 1 ≤ id)
+GiveEach options (commands.Generate batches rows seed) = GiveNumber options (codes "batches") (Some batches)
+    × GiveNumber options (codes "rows") (Some rows) × GiveNumber options (codes "seed") (Some seed)
+    × CanDraw batches rows
 GiveEach options (commands.Scan snapshot) = GiveNumber options (codes "snapshot") snapshot
 GiveEach options commands.Snapshots = Unit {0}
 GiveEach options (commands.Write user identifier) = GiveName options (codes "user") user

@@ -8,11 +8,14 @@ ghost use Rattle.pm_words.specs.Reading.{Finds, GiveAfter};
 ghost use Rattle.pm_words.specs.Words.{Give, GiveNoCommand, first_word};
 
 use crate::declared::{
-    compact_words, consumers_words, create_words, expire_words, follow_words, scan_words,
-    snapshots_words, write_words,
+    compact_words, consumers_words, create_words, expire_words, follow_words, generate_words,
+    scan_words, snapshots_words, write_words,
 };
 use crate::options::{matches_in, texts_in};
-use crate::values::{are_in_order, flag_given, name_given, number_given, retained_given};
+use crate::values::{
+    GREATEST_NUMBER, are_in_order, flag_given, name_given, number_between, number_given,
+    retained_given,
+};
 use pm_values::{Refusal, Txt};
 use std::alloc::{AllocError, Global};
 
@@ -56,7 +59,19 @@ pub enum Command {
         consumer: Option<Txt>,
         full: bool,
     },
+    /// To make a table and fill it: with so many batches, of so many rows each, drawn from this seed.
+    Generate {
+        batches: u64,
+        rows: u64,
+        seed: u64,
+    },
 }
+
+/// The most batches that can be drawn.
+const MOST_BATCHES: u64 = 1000;
+
+/// The most rows of each.
+const MOST_BATCH_ROWS: u64 = 10000;
 
 /// The command that the words give, if they give one.
 pub fn command_in(alloc: Global, words: &[Txt]) -> Result<Option<Command>, AllocError>
@@ -87,6 +102,7 @@ fn command_of<'a>(
         "create" => create_of(alloc, words),
         "expire" => expire_of(alloc, words),
         "follow" => follow_of(alloc, words),
+        "generate" => generate_of(alloc, words),
         "scan" => scan_of(alloc, words),
         "snapshots" => snapshots_of(alloc, words),
         "write" => write_of(alloc, words),
@@ -176,6 +192,30 @@ fn follow_of<'a>(alloc: Global, words: &'a [&'a str]) -> Result<Option<Command>,
         from,
         consumer,
         full,
+    }))
+}
+
+/// The command `generate` with these words after it.
+fn generate_of<'a>(alloc: Global, words: &'a [&'a str]) -> Result<Option<Command>, AllocError>
+    requires { list_all may_stand (map (λ word. word.now) words.now) ≡ true }
+    ensures { IfOk result (Finds (GiveAfter (codes "generate") (map (λ word. word.now) words.entry.now))) }
+{
+    let Some(matches) = matches_in(generate_words(alloc)?, words)? else {
+        return Ok(None);
+    };
+    let Some(batches) = number_between(&matches, "batches", 0, MOST_BATCHES) else {
+        return Ok(None);
+    };
+    let Some(rows) = number_between(&matches, "rows", 1, MOST_BATCH_ROWS) else {
+        return Ok(None);
+    };
+    let Some(seed) = number_between(&matches, "seed", 0, GREATEST_NUMBER) else {
+        return Ok(None);
+    };
+    Ok(Some(Command::Generate {
+        batches,
+        rows,
+        seed,
     }))
 }
 

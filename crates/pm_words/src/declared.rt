@@ -3,6 +3,7 @@
 ghost use Rattle.std.specs.Prelude.{◌≡◌, [], IfOk, codes};
 ghost use Rattle.clap.specs.Words.{app_of};
 ghost use Rattle.pm_words.specs.Clap.{app_for, compact_options, consumers_options, expire_options, follow_options};
+ghost use Rattle.pm_words.specs.Clap.{generate_options};
 ghost use Rattle.pm_words.specs.Clap.{scan_options, write_options};
 
 use crate::options::{with_flag, with_value, without_options};
@@ -99,6 +100,29 @@ pub(crate) fn follow_words<'a>(alloc: Global) -> Result<Command<'a>, AllocError>
         command,
         "full",
         "Prints the table first, as it was before",
+    )
+}
+
+/// The command `generate` and its options.
+pub(crate) fn generate_words<'a>(alloc: Global) -> Result<Command<'a>, AllocError>
+    ensures { IfOk result (λ command. app_of command ≡ app_for (codes "generate") generate_options) }
+{
+    let about = "Makes a table and commits batches of rows to it that are drawn from a seed";
+    let command = without_options(alloc, "generate", about);
+    let command = with_value(alloc, command, "batches", "NUMBER", "How many batches, at most 1000")?;
+    let command = with_value(
+        alloc,
+        command,
+        "rows",
+        "NUMBER",
+        "How many rows each has, from 1 to 10000",
+    )?;
+    with_value(
+        alloc,
+        command,
+        "seed",
+        "NUMBER",
+        "What they are drawn from: the same seed gives the same rows",
     )
 }
 

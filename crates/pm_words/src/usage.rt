@@ -1,8 +1,8 @@
 //! What is said of all commands, and of each, to whom asks for help.
 
 use crate::declared::{
-    compact_words, consumers_words, create_words, expire_words, follow_words, scan_words,
-    snapshots_words, write_words,
+    compact_words, consumers_words, create_words, expire_words, follow_words, generate_words,
+    scan_words, snapshots_words, write_words,
 };
 use clap::Command;
 use std::alloc::{AllocError, Global};
@@ -44,7 +44,8 @@ fn all_commands<'a>(alloc: Global) -> Result<Command<'a>, AllocError> {
         .subcommand(snapshots_words(alloc))?
         .subcommand(consumers_words(alloc)?)?
         .subcommand(compact_words(alloc)?)?
-        .subcommand(expire_words(alloc)?)
+        .subcommand(expire_words(alloc)?)?
+        .subcommand(generate_words(alloc)?)
 }
 
 /// Adds what help says of the commands that change nothing.
@@ -104,7 +105,11 @@ fn push_writers(alloc: Global, text: &mut String) -> Result<(), AllocError> {
     text.push_str("\n## expire\n\n")?;
     let usage = "./paimon FOLDER expire [--min NUMBER] [--max NUMBER] [--millis NUMBER]";
     let example = "Example: ./paimon my_table expire --max 100";
-    push_help(text, expire_words(alloc)?, usage, example)
+    push_help(text, expire_words(alloc)?, usage, example)?;
+    text.push_str("\n## generate\n\n")?;
+    let usage = "./paimon FOLDER generate --batches NUMBER --rows NUMBER --seed NUMBER";
+    let example = "Example: ./paimon my_run generate --batches 100 --rows 1000 --seed 7";
+    push_help(text, generate_words(alloc)?, usage, example)
 }
 
 /// Adds what help says of one command, with how it is asked for and an example.

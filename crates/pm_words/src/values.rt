@@ -4,7 +4,7 @@ ghost use Rattle.std.specs.Prelude.{◌≡◌, ◌≤◌, ◌↔◌, ℕ, List, 
 ghost use Rattle.std.specs.List.{list_all, list_any};
 ghost use Rattle.std.specs.Fmt.{decimal};
 ghost use Rattle.pm_words.specs.Clap.{Declared, HasFound, declared_as, flag, has_flag, value};
-ghost use Rattle.pm_words.specs.Reading.{Finds, GiveRetained, IsNameOf, IsNumberOf};
+ghost use Rattle.pm_words.specs.Reading.{Finds, GiveBetween, GiveRetained, IsNameOf, IsNumberOf};
 ghost use Rattle.pm_words.specs.Words.{AreInOrder, GiveFlag, GiveName, GiveNumber, IsName, IsRetained, is_name_byte};
 
 use clap::ArgMatches;
@@ -13,7 +13,7 @@ use pm_values::Txt;
 use std::alloc::{AllocError, Global};
 
 /// The greatest number that an option takes.
-const GREATEST_NUMBER: u64 = 9223372036854775807;
+pub(crate) const GREATEST_NUMBER: u64 = 9223372036854775807;
 
 /// The greatest number of snapshots that can be asked to be kept.
 const GREATEST_RETAINED: u64 = 2147483647;
@@ -58,6 +58,32 @@ pub(crate) fn number_given(matches: &ArgMatches, option: &str) -> Option<Option<
         }
         None => Some(None),
     }
+}
+
+/// The number that is given here, if one is between these.
+pub(crate) fn number_between(
+    matches: &ArgMatches,
+    option: &str,
+    least: u64,
+    greatest: u64,
+) -> Option<u64>
+    ensures { (declared : List Declared) (words : List (List ℕ)) (found : HasFound declared words matches.now)
+        → declared_as option.now declared ≡ Some (value option.now) → list_any (has_flag option.now) declared ≡ false
+        → Finds (GiveBetween found.options option.now least greatest) result }
+{
+    let number = number_given(matches, option)??;
+    if is_between(number, least, greatest) {
+        Some(number)
+    } else {
+        None
+    }
+}
+
+/// Whether a number is between these.
+fn is_between(number: u64, least: u64, greatest: u64) -> bool
+    ensures { IsTrue result ↔ ((least ≤ number) × (number ≤ greatest)) }
+{
+    least <= number && number <= greatest
 }
 
 /// The number of snapshots to be kept that is given here, if one is or the option is absent.
