@@ -10,6 +10,7 @@ use std::alloc::{AllocError, Global};
 use std::marker::Model;
 
 /// The number that was drawn last, or the seed where none was.
+#[derive(Drop)]
 pub struct Draws {
     last: u64,
 }
