@@ -1,0 +1,4 @@
+pub mod AllLemmas
+pub mod FillLemmas
+pub mod GoneLemmas
+pub mod TextLemmas
