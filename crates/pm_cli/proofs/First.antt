@@ -11,7 +11,7 @@ use Rattle.pm_words.specs.declared.command.Command.{Command}
 use Rattle.pm_words.specs.declared.command.Command.TheVariants as commands
 use Rattle.pm_command.specs.Outside.{Outside}
 use Rattle.pm_command.specs.declared.start.Start.{Start}
-use Rattle.pm_cli.specs.Commands.{Acts}
+use Rattle.pm_cli.specs.Commands.{Acts, IsSingle}
 
 drop_front : (ops more : List Op) → drop (length ops) (ops ++ more) ≡ more
 drop_front [] more = refl
@@ -49,22 +49,23 @@ from_before P before after goes alone here =
 untouched : (before after : StoreView) → after ≡ before → GoesOn before after
 untouched before after same = subst (λ (after : StoreView). GoesOn before after) (sym same) (GoesOn-refl before)
 
-pub acts_goes_on : (command : Command) (start : Start) (before after : Outside) (answer : Option Refusal) → Acts command start before after answer
+pub acts_goes_on : (command : Command) → IsSingle command → (start : Start) (before after : Outside) (answer : Option Refusal) → Acts command start before after answer
     → GoesOn before.store after.store
-acts_goes_on commands.Create start before after answer (inl (e, is, refuses, rest)) = untouched before.store after.store rest.store
-acts_goes_on commands.Create start before after answer (inr (s, is, (made, (own, did, traces), prints))) =
+acts_goes_on commands.Create single start before after answer (inl (e, is, refuses, rest)) = untouched before.store after.store rest.store
+acts_goes_on commands.Create single start before after answer (inr (s, is, (made, (own, did, traces), prints))) =
     Traces-goes_on own before.store after.store traces
-acts_goes_on (commands.Scan at) start before after answer (made, (own, did, traces), beside, prints) = Traces-goes_on own before.store after.store traces
-acts_goes_on (commands.Consumers None) start before after answer (made, (own, did, traces), beside, prints) = Traces-goes_on own before.store after.store traces
-acts_goes_on (commands.Consumers (Some name)) start before after answer (made, (own, did, traces), beside, prints) =
+acts_goes_on (commands.Scan at) single start before after answer (made, (own, did, traces), beside, prints) = Traces-goes_on own before.store after.store traces
+acts_goes_on (commands.Consumers None) single start before after answer (made, (own, did, traces), beside, prints) = Traces-goes_on own before.store after.store traces
+acts_goes_on (commands.Consumers (Some name)) single start before after answer (made, (own, did, traces), beside, prints) =
     Traces-goes_on own before.store after.store traces
-acts_goes_on commands.Snapshots start before after answer (made, (own, did, traces), beside, prints) = Traces-goes_on own before.store after.store traces
-acts_goes_on (commands.Compact full) start before after answer (made, (own, did, traces), prints) = Traces-goes_on own before.store after.store traces
-acts_goes_on (commands.Expire min max millis) start before after answer (made, (own, did, traces), beside, prints) =
+acts_goes_on commands.Snapshots single start before after answer (made, (own, did, traces), beside, prints) = Traces-goes_on own before.store after.store traces
+acts_goes_on (commands.Compact full) single start before after answer (made, (own, did, traces), prints) = Traces-goes_on own before.store after.store traces
+acts_goes_on (commands.Expire min max millis) single start before after answer (made, (own, did, traces), beside, prints) =
     Traces-goes_on own before.store after.store traces
-acts_goes_on (commands.Follow from None full) start before after answer ((own, ends, traces), beside) = Traces-goes_on own before.store after.store traces
-acts_goes_on (commands.Follow from (Some name) full) start before after answer ((own, ends, traces), beside) =
+acts_goes_on (commands.Follow from None full) single start before after answer ((own, ends, traces), beside) = Traces-goes_on own before.store after.store traces
+acts_goes_on (commands.Follow from (Some name) full) single start before after answer ((own, ends, traces), beside) =
     Traces-goes_on own before.store after.store traces
-acts_goes_on (commands.Write user number) start before after answer (inl (e, is, refuses, rest)) = untouched before.store after.store rest.store
-acts_goes_on (commands.Write user number) start before after answer (inr (lines, (made, (own, did, traces), prints))) =
+acts_goes_on (commands.Generate batches rows seed) single start before after answer acts = absurd single
+acts_goes_on (commands.Write user number) single start before after answer (inl (e, is, refuses, rest)) = untouched before.store after.store rest.store
+acts_goes_on (commands.Write user number) single start before after answer (inr (lines, (made, (own, did, traces), prints))) =
     Traces-goes_on own before.store after.store traces

@@ -108,7 +108,7 @@ module _ (Good : History → Files → Type 0) (Allows : Execution → Type 0)
       let e = t.execution in
       let first = at_first_own e.before.store e.after.store in
       let Has : Files → Type 0 = StandsWith (t ∷ turns) h in
-      let goes = acts_goes_on e.command e.start e.before e.after e.refusal is.acts in
+      let goes = acts_goes_on e.command is.single e.start e.before e.after e.refusal is.acts in
       let only : IsAlone e.before.store e.after.store = subst (λ (store : StoreView). IsAlone store e.after.store) (sym same) alone in
       let here : LeavesFiles Has e.before.store = subst (λ (store : StoreView). LeavesFiles Has store) (sym same) stands in
       let found = from_before Has e.before.store e.after.store goes only here in
@@ -158,6 +158,7 @@ forgotten commands.Snapshots start h g f path bytes there never = absurd never
 forgotten (commands.Consumers dropped) start h g f path bytes there never = absurd never
 forgotten (commands.Compact full) start h g f path bytes there never = absurd never
 forgotten (commands.Follow from consumer full) start h g f path bytes there never = absurd never
+forgotten (commands.Generate batches rows seed) start h g f path bytes there never = absurd never
 forgotten (commands.Write user number) start h g f path bytes there never = absurd never
 
 -- a file that is there stays, but for one that they take away or write
@@ -191,6 +192,7 @@ no-consumer commands.Snapshots me h name may = may
 no-consumer (commands.Consumers dropped) me h name may = may
 no-consumer (commands.Expire min max millis) me h name may = may
 no-consumer (commands.Follow from consumer full) me h name may = may
+no-consumer (commands.Generate batches rows seed) me h name may = may
 
 -- and none is such
 snapshot-no_consumer : (s : TableSchema) (id : ℕ) (name : List ℕ) → IsSnapshotPath s id (consumer_path name) → ⊥
@@ -210,6 +212,7 @@ spares-consumers commands.Snapshots name never = never
 spares-consumers (commands.Consumers dropped) name never = never
 spares-consumers (commands.Compact full) name never = never
 spares-consumers (commands.Follow from consumer full) name never = never
+spares-consumers (commands.Generate batches rows seed) name never = never
 spares-consumers (commands.Write user number) name never = never
 
 -- an expiry makes none
@@ -223,6 +226,7 @@ forgets-none commands.Snapshots start h g f name never = absurd never
 forgets-none (commands.Consumers dropped) start h g f name never = absurd never
 forgets-none (commands.Compact full) start h g f name never = absurd never
 forgets-none (commands.Follow from consumer full) start h g f name never = absurd never
+forgets-none (commands.Generate batches rows seed) start h g f name never = absurd never
 forgets-none (commands.Write user number) start h g f name never = absurd never
 
 pub still_gone : (name : List ℕ) (e : Execution) (h : History) (first : StoreView) (later : History) (f : Files) → StandsForOthers e h first later f

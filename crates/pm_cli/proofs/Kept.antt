@@ -182,7 +182,7 @@ turned : KeepsEach → (ending : Ending) (e : Execution) (command : Command) (h 
     → HasInput e.command e.input e.before.input.left → HandsOn ending e next → LeavesFiles P store → Turned ending e h P next
 turned keeps ending e command h P store next is stays starts same executed alone input leaves here =
     let first = found_by e in
-    let goes = acts_goes_on e.command e.start e.before e.after e.refusal executed.acts in
+    let goes = acts_goes_on e.command executed.single e.start e.before e.after e.refusal executed.acts in
     let only : IsAlone e.before.store e.after.store = subst (λ (store : StoreView). IsAlone store e.after.store) (sym same) alone in
     let there : LeavesFiles P e.before.store = subst (λ (store : StoreView). LeavesFiles P store) (sym same) here in
     let found = from_before P e.before.store e.after.store goes only there in

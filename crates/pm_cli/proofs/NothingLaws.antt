@@ -21,7 +21,7 @@ use Rattle.pm_words.specs.declared.command.Command.TheVariants as commands
 use Rattle.pm_command.specs.Outside.{outside}
 use Rattle.pm_command.specs.declared.start.Start.{Start}
 use Rattle.pm_expire_end.specs.declared.keep.KeepAsked.{KeepAsked}
-use Rattle.pm_cli.specs.Commands.{Acts, Answers, ServesHistories, keep_asked}
+use Rattle.pm_cli.specs.Commands.{Acts, Answers, ServesHistories, drawing, keep_asked}
 use Rattle.pm_command_compact.specs.Compact as compact
 use Rattle.pm_command_consume.specs.Alone.{ConsumesAny}
 use Rattle.pm_command_consume.specs.Consume.{HasConsumed, IsConsuming, consuming}
@@ -31,6 +31,8 @@ use Rattle.pm_command_consumers.specs.Drop as drops
 use Rattle.pm_command_expire.specs.Expire as expire
 use Rattle.pm_command_follow.specs.Follow as follow
 use Rattle.pm_command_follow.specs.Follow.{DidSchema}
+use Rattle.pm_command_generate.specs.Generate.{Generates, commands_of, out_of_memory}
+use Rattle.pm_command_generate.specs.declared.drawing.Drawing.{Drawing}
 use Rattle.pm_command_scan.specs.Scan as scan
 use Rattle.pm_command_snapshots.specs.Snapshots as snapshots
 use Rattle.pm_command_write.specs.Write.{writer_of}
@@ -98,6 +100,9 @@ consumed_none : (from : Option ℕ) (name : List ℕ) (full : Bool) (out : SinkV
     → HasConsumed (consuming name from full) out out store store (Some refusals.Memory)
 consumed_none from name full out store = schema_shown (consuming name from full) refusals.Memory out store store (schema_none store)
 
+generated_none : (d : Drawing) (start : Start) (out : SinkView) (store : StoreView) → Generates d start out out store store (Some refusals.Memory)
+generated_none d start out store = ([], Some refusals.Memory, out_of_memory (commands_of d) 0 store, (refl, refl))
+
 -- what the law of changes says, and that of a following with a consumer
 abbrev pub PastStays : Type 0
 PastStays = (me : Actor) (f after : Files) (p q : Past) → Stands f p → Advances me f p after q → Stands after q
@@ -130,6 +135,7 @@ module _ (start : Start) (input : SourceView) (out : SinkView) (store : StoreVie
   nothing_answers past (commands.Follow from None full) = (refl, followed_none from full out store)
   nothing_answers past (commands.Follow from (Some name) full) =
       (refl, (consumed_none from name full out store, λ me. schema_refused me (consuming name from full) refusals.Memory out store store (learns-none AnyPast store)))
+  nothing_answers past (commands.Generate batches rows seed) = (refl, generated_none (drawing batches rows seed) start out store)
   nothing_answers past (commands.Compact full) =
       (refl, compacts.compacted_answers start full (outside input out store) (outside input out store) (Some refusals.Memory) (compacted_none start full out store))
   nothing_answers past (commands.Expire min max millis) = (
@@ -150,6 +156,7 @@ module _ (start : Start) (input : SourceView) (out : SinkView) (store : StoreVie
   nothing_acts past (commands.Follow from None full) = followed_none from full out store
   nothing_acts past (commands.Follow from (Some name) full) =
       (consumed_none from name full out store, λ me. schema_refused me (consuming name from full) refusals.Memory out store store (learns-none AnyPast store))
+  nothing_acts past (commands.Generate batches rows seed) = generated_none (drawing batches rows seed) start out store
   nothing_acts past (commands.Compact full) =
       compacts.compacted_answers start full (outside input out store) (outside input out store) (Some refusals.Memory) (compacted_none start full out store)
   nothing_acts past (commands.Expire min max millis) =
@@ -171,6 +178,7 @@ module _ (start : Start) (input : SourceView) (out : SinkView) (store : StoreVie
   nothing_serves law consume (commands.Follow from (Some name) full) (first, named) =
       consume (consuming name from full) out out store store (Some refusals.Memory) (record { plain = name_is_plain name named; from = first })
       (consumed_none from name full out store)
+  nothing_serves law consume (commands.Generate batches rows seed) range = generated_none (drawing batches rows seed) start out store
   nothing_serves law consume (commands.Compact full) range =
       compacts.compacted_serves start full (outside input out store) (outside input out store) (Some refusals.Memory) (compacted_none start full out store)
   nothing_serves law consume (commands.Expire min max millis) range =

@@ -16,6 +16,8 @@ use Rattle.pm_command_consumers.specs.Consumers as consumers
 use Rattle.pm_command_consumers.specs.Drop as drops
 use Rattle.pm_command_expire.specs.Expire.{AnswersExpire, ExpiresTables}
 use Rattle.pm_command_follow.specs.Follow.{Follows, FollowsTables}
+use Rattle.pm_command_generate.specs.Generate.{Generates}
+use Rattle.pm_command_generate.specs.declared.drawing.Drawing.{Drawing}
 use Rattle.pm_command_scan.specs.Scan.{Scans, ScansTables}
 use Rattle.pm_command_snapshots.specs.Snapshots.{ListsSnapshots, ListsTables}
 use Rattle.pm_command_write.specs.Write.{AnswersWrite, ActsWrite, WritesTables, writer_of}
@@ -60,6 +62,15 @@ IsFollowedOrConsumed from consumer full before after answer = FollowsOrConsumes 
 abbrev pub keep_asked : Option ℕ → Option ℕ → Option ℕ → KeepAsked
 keep_asked min max millis = record { min = min; max = max; millis = millis }
 
+-- what `generate` is asked to draw
+abbrev pub drawing : ℕ → ℕ → ℕ → Drawing
+drawing batches rows seed = record { batches = batches; rows = rows; seed = seed }
+
+-- a command that executes no others
+abbrev pub IsSingle : Command → Type 0
+IsSingle (commands.Generate batches rows seed) = ⊥
+IsSingle other = Unit {0}
+
 -- what a command answers to an input that is known
 abbrev pub Answers : Command → Start → Outside → Outside → Option Refusal → Type 0
 Answers commands.Create start before after answer =
@@ -76,6 +87,8 @@ Answers (commands.Expire min max millis) start before after answer =
     (after.input ≡ before.input) × AnswersExpire start (keep_asked min max millis) before after answer
 Answers (commands.Follow from consumer full) start before after answer =
     (after.input ≡ before.input) × FollowsOrConsumes from consumer full before after answer
+Answers (commands.Generate batches rows seed) start before after answer = (after.input ≡ before.input)
+    × Generates (drawing batches rows seed) start before.out after.out before.store after.store answer
 Answers (commands.Write user identifier) start before after answer =
     (bytes : List ℕ) → before.input.left ≡ Some bytes
     → AnswersWrite start (writer_of user identifier) bytes before after answer
@@ -91,10 +104,12 @@ Acts (commands.Expire min max millis) start before after answer =
     AnswersExpire start (keep_asked min max millis) before after answer
 Acts (commands.Follow from consumer full) start before after answer =
     FollowsOrConsumes from consumer full before after answer
+Acts (commands.Generate batches rows seed) start before after answer =
+    Generates (drawing batches rows seed) start before.out after.out before.store after.store answer
 Acts (commands.Write user identifier) start before after answer =
     ActsWrite start (writer_of user identifier) before after answer
 
--- what it promises of histories
+-- what it promises of histories; `generate` what each of the commands does that it executes
 abbrev pub ServesHistories : Command → Start → Outside → Outside → Option Refusal → Type 0
 ServesHistories commands.Create start before after answer = CreatesTables start before after answer
 ServesHistories (commands.Scan snapshot) start before after answer = ScansTables snapshot before after answer
@@ -106,5 +121,7 @@ ServesHistories (commands.Expire min max millis) start before after answer =
     ExpiresTables start (keep_asked min max millis) before after answer
 ServesHistories (commands.Follow from consumer full) start before after answer =
     FollowsOrConsumesTables from consumer full before after answer
+ServesHistories (commands.Generate batches rows seed) start before after answer =
+    Generates (drawing batches rows seed) start before.out after.out before.store after.store answer
 ServesHistories (commands.Write user identifier) start before after answer =
     WritesTables start (writer_of user identifier) before after answer

@@ -10,12 +10,14 @@ use Rattle.pm_store.specs.Store.{StoreView, IsAlone}
 use Rattle.pm_model_history.specs.History.{History}
 use Rattle.pm_model_folder.specs.Paths.{consumer_path}
 use Rattle.pm_command.specs.Outside.{actor}
-use Rattle.pm_cli.specs.Commands.{Acts, ServesHistories}
+use Rattle.pm_cli.specs.Commands.{Acts, IsSingle, ServesHistories}
 use Rattle.pm_cli.specs.Promise.{Execution, HasMade, MayMake}
 use Rattle.pm_cli.specs.Start.{HasInput, HaveOtherNames, MayExpire, MayTake, MayWrite}
 
--- it is one by `run`, whose clauses `acts` and `history` say this of the command that its words give
+-- it is one by `run`, whose clauses `acts` and `history` say this of the command that its words give, and executes no
+-- others
 pub record IsExecuted (e : Execution) : Type 0 where
+  pub single : IsSingle e.command
   pub acts : Acts e.command e.start e.before e.after e.refusal
   pub history : ServesHistories e.command e.start e.before e.after e.refusal
 

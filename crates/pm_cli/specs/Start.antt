@@ -34,6 +34,7 @@ MayStart (commands.Consumers dropped) me h f = Folder f h
 MayStart (commands.Compact full) me h f = commit.MayStart me h f
 MayStart (commands.Expire min max millis) me h f = Folder f h
 MayStart (commands.Follow from consumer full) me h f = Folder f h
+MayStart (commands.Generate batches rows seed) me h f = making.MayStart me h f
 MayStart (commands.Write user identifier) me h f = commit.MayStart me h f
 
 -- These are the bytes of the input, where the command reads it.
@@ -45,6 +46,7 @@ HasInput (commands.Consumers dropped) bytes left = Unit {0}
 HasInput (commands.Compact full) bytes left = Unit {0}
 HasInput (commands.Expire min max millis) bytes left = Unit {0}
 HasInput (commands.Follow from consumer full) bytes left = Unit {0}
+HasInput (commands.Generate batches rows seed) bytes left = Unit {0}
 HasInput (commands.Write user identifier) bytes left = left ≡ Some bytes
 
 -- The file at this path is one that the command may make: its table's origin and schema; or its actor's own and the

@@ -17,6 +17,7 @@ use pm_command_consumers::{run_consumers, run_drop};
 use pm_command_create::run_create;
 use pm_command_expire::run_expire;
 use pm_command_follow::{follow_law, run_follow};
+use pm_command_generate::{Drawing, run_generate};
 use pm_command_scan::run_scan;
 use pm_command_snapshots::run_snapshots;
 use pm_command_write::{Writer, run_write};
@@ -103,6 +104,18 @@ fn execute_command<S: Source, W: Sink, F: FileStore>(
             consumer,
             full,
         } => follow_or_consume(alloc, from, consumer, full, out, store),
+        Command::Generate {
+            batches,
+            rows,
+            seed,
+        } => {
+            let drawing = Drawing {
+                batches,
+                rows,
+                seed,
+            };
+            run_generate(alloc, &drawing, out, store, start)
+        }
         Command::Write { user, identifier } => {
             run_write(alloc, Writer { user, identifier }, input, out, store, start)
         }

@@ -6,7 +6,7 @@ ghost use Rattle.pm_report.specs.Report.{code_of};
 ghost use Rattle.pm_command.specs.Outside.{outside, AllLater, IsUntouched, exit_code, Said};
 ghost use Rattle.pm_words.specs.Words.{Give, GiveNoCommand, IsNoCommand};
 ghost use Rattle.pm_words.specs.declared.command.Command.{Command};
-ghost use Rattle.pm_cli.specs.Commands.{Acts, Answers, ServesHistories};
+ghost use Rattle.pm_cli.specs.Commands.{Acts, Answers, IsSingle, ServesHistories};
 ghost use Rattle.pm_cli.specs.Promise.{Keeps};
 
 use crate::execute::execute;
@@ -59,8 +59,9 @@ pub fn run<S: Source, W: Sink, V: Sink, F: FileStore>(
         (outside (S.seen input.new) (W.seen out.new) (F.seen store.new)) result.refusal }
 
     // The promise: of each history that stands at its first call of the store, what it makes of it, what stands at the
-    // end and in each image of a crash, what is printed, and that others are free to go on.
-    ensures promise { (command : Command) (bytes : List ℕ) → Give words.now command
+    // end and in each image of a crash, what is printed, and that others are free to go on. `generate` executes other
+    // commands, of each of which its own clauses say so.
+    ensures promise { (command : Command) (bytes : List ℕ) → Give words.now command → IsSingle command
         → Keeps (record {
           command = command;
           start = start.now;

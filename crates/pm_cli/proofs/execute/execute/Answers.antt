@@ -15,6 +15,7 @@ in_range words (commands.Consumers dropped) give = give.values.1
 in_range words commands.Snapshots give = tt
 in_range words (commands.Compact full) give = tt
 in_range words (commands.Expire min max millis) give = give.values.3
+in_range words (commands.Generate batches rows seed) give = give.values.3
 in_range words (commands.Write user identifier) give = tt
 
 pub execute_command-requires : goal.execute_command-requires

@@ -150,6 +150,18 @@ returns-in-Follow-clause-history g c =
     let input = g.S.Source.seen c.args.input.now in
     rw c.in-Follow.is (c.follow_or_consume.ensures.done input input).1
 
+pub run_generate-requires : goal.run_generate-requires
+run_generate-requires g c = rw c.in-Generate.is at c.requires
+
+pub returns-in-Generate-clause-command : goal.returns-in-Generate-clause-command
+returns-in-Generate-clause-command g c = rw c.in-Generate.is (refl, c.run_generate.ensures.generated)
+
+pub returns-in-Generate-clause-acts : goal.returns-in-Generate-clause-acts
+returns-in-Generate-clause-acts g c = rw c.in-Generate.is c.run_generate.ensures.generated
+
+pub returns-in-Generate-clause-history : goal.returns-in-Generate-clause-history
+returns-in-Generate-clause-history g c = rw c.in-Generate.is c.run_generate.ensures.generated
+
 pub returns-in-Write-clause-command : goal.returns-in-Write-clause-command
 returns-in-Write-clause-command g c = rw c.in-Write.is c.run_write.ensures.command
 

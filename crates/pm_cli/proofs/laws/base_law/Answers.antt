@@ -52,6 +52,7 @@ new_starts commands.Snapshots me h f new = new.folder
 new_starts (commands.Consumers dropped) me h f new = new.folder
 new_starts (commands.Expire min max millis) me h f new = new.folder
 new_starts (commands.Follow from consumer full) me h f new = new.folder
+new_starts (commands.Generate batches rows seed) me h f new = (new.folder, λ gone. new.origin)
 new_starts (commands.Compact full) me h f new = (new.folder, new.names)
 
 pub returns-clause-new : goal.returns-clause-new
@@ -74,6 +75,7 @@ none_between : (id : ℕ) → 1 ≤ id → id ≤ 0 → ⊥
 none_between id from to = omega (arith, from, to)
 
 created_start : (command : Command) (me : Actor) (s : TableSchema) (f : Files) → HasTable f s [] → MayStart command me (table s []) f
+created_start (commands.Generate batches rows seed) me s f stands = created_start commands.Create me s f stands
 created_start commands.Create me s f stands = (
   stands,
   λ none name origin is.

@@ -20,6 +20,7 @@ each create scan snapshots consumers compact expire follow write (commands.Consu
 each create scan snapshots consumers compact expire follow write (commands.Compact full) = compact full
 each create scan snapshots consumers compact expire follow write (commands.Expire min max millis) = expire min max millis
 each create scan snapshots consumers compact expire follow write (commands.Follow from consumer full) = follow from consumer full
+each create scan snapshots consumers compact expire follow write (commands.Generate batches rows seed) = λ e is. absurd is.single
 each create scan snapshots consumers compact expire follow write (commands.Write user number) = write user number
 
 -- one is listed or dropped

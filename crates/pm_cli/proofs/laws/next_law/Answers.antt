@@ -5,5 +5,5 @@ use Rattle.pm_cli.proofs.laws.next_law.Goals as goal
 
 pub returns : goal.returns
 returns c = λ e h is alone here.
-    from_before (MayStart e.command (actor e.start) h) e.before.store e.after.store (acts_goes_on e.command e.start e.before e.after e.refusal is.acts)
+    from_before (MayStart e.command (actor e.start) h) e.before.store e.after.store (acts_goes_on e.command is.single e.start e.before e.after e.refusal is.acts)
     alone here
