@@ -26,7 +26,8 @@ use Rattle.pm_command_generate.specs.declared.turn.Turn.{Turn}
 
 -- the draft of the table: a key, a number, and four buckets
 abbrev pub draft : List ℕ
-draft = codes "{\"fields\":[{\"name\":\"id\",\"type\":\"BIGINT NOT NULL\"},{\"name\":\"v\",\"type\":\"BIGINT\"}],\"primaryKeys\":[\"id\"],\"options\":{\"bucket\":\"4\"}}"
+draft = codes "{\"fields\":[{\"name\":\"id\",\"type\":\"BIGINT NOT NULL\"},{\"name\":\"v\",\"type\":\"BIGINT\"}],"
+    ++ codes "\"primaryKeys\":[\"id\"],\"options\":{\"bucket\":\"4\"}}"
 
 -- a command with its input
 abbrev pub Asked : Type 0

@@ -235,8 +235,11 @@ module _ (words : List (List ℕ)) where
 
   pub no_batches : (options : List CommandOption) → AreOptions options words → Finds (GiveBetween options (codes "batches") 0 most_batches) None → (command : Command) → GiveAfter (codes "generate") words command → ⊥
   no_batches options are none (commands.Generate batches rows seed) after =
-      none batches (subst (λ os. GiveNumber os (codes "batches") (Some batches)) (same_options options are (codes "generate") (commands.Generate batches rows seed) after) after.of.values.0,
-      omega arith, after.of.values.3.0)
+      none batches (
+        subst (λ os. GiveNumber os (codes "batches") (Some batches)) (same_options options are (codes "generate") (commands.Generate batches rows seed) after) after.of.values.0,
+        omega arith,
+        after.of.values.3.0,
+      )
   no_batches options are none other after = apart (codes "generate") (word_of other) refl after.of.first
 
   pub no_rows : (options : List CommandOption) → AreOptions options words → Finds (GiveBetween options (codes "rows") 1 most_batch_rows) None → (command : Command) → GiveAfter (codes "generate") words command → ⊥

@@ -109,7 +109,13 @@ pub(crate) fn generate_words<'a>(alloc: Global) -> Result<Command<'a>, AllocErro
 {
     let about = "Makes a table and commits batches of rows to it that are drawn from a seed";
     let command = without_options(alloc, "generate", about);
-    let command = with_value(alloc, command, "batches", "NUMBER", "How many batches, at most 1000")?;
+    let command = with_value(
+        alloc,
+        command,
+        "batches",
+        "NUMBER",
+        "How many batches, at most 1000",
+    )?;
     let command = with_value(
         alloc,
         command,
