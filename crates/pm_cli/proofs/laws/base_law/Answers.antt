@@ -74,13 +74,16 @@ at_origin f (Some other) name is there =
 none_between : (id : ℕ) → 1 ≤ id → id ≤ 0 → ⊥
 none_between id from to = omega (arith, from, to)
 
-created_start : (command : Command) (me : Actor) (s : TableSchema) (f : Files) → HasTable f s [] → MayStart command me (table s []) f
-created_start (commands.Generate batches rows seed) me s f stands = created_start commands.Create me s f stands
-created_start commands.Create me s f stands = (
+created_again : (me : Actor) (s : TableSchema) (f : Files) → HasTable f s [] → MayStart commands.Create me (table s []) f
+created_again me s f stands = (
   stands,
   λ none name origin is.
       nothing (map.get f (snapshot_file name)) (ap (map.get f) is ∙ none) (at_origin f s.origin name origin (origin_there s f stands)),
 )
+
+created_start : (command : Command) (me : Actor) (s : TableSchema) (f : Files) → HasTable f s [] → MayStart command me (table s []) f
+created_start (commands.Generate batches rows seed) me s f stands = created_again me s f stands
+created_start commands.Create me s f stands = created_again me s f stands
 created_start (commands.Write user identifier) me s f stands = (stands, λ t id path is from to has by. none_between id from to)
 created_start (commands.Scan at) me s f stands = stands
 created_start commands.Snapshots me s f stands = stands
