@@ -30,7 +30,7 @@ import subprocess
 import sys
 import time
 
-from kills import EXPIRE, MERGING, TOLD, batch, quiet
+from kills import BUCKETS, EXPIRE, MERGING, PARTS, TOLD, batch, quiet
 from trials import DRAFT, Ended, Tally, knows, knows_consumers, random_of, read_arguments, run, work_folder
 
 CALLS = "openat open creat write pwrite64 fsync fdatasync rename renameat renameat2 unlink unlinkat mkdir mkdirat rmdir"
@@ -270,6 +270,19 @@ def expired(syncs):
     for sync in range(1, syncs + 1):
         steps = [full, expire._replace(killed=sync), expire]
         yield Case(f"an expiry killed at sync {sync}, then another", DRAFT, [(1, 2), (3,)], True, steps)
+
+
+def grouped(syncs):
+    """What is recorded of tables of several groups."""
+    write, full = Step(["write"], batch(6, 7, 8, 9)), Step(["compact", "--full"])
+    for is_quiet, what in itertools.product((True, False), (("buckets", BUCKETS), ("partitions", PARTS))):
+        (name, draft), how = what, "quiet" if is_quiet else "hot"
+        yield Case(f"the first write to {name}, {how}", draft, [], is_quiet, [write])
+        yield Case(f"a write to {name}, {how}", draft, [(1, 2, 3, 4), (5,)], is_quiet, [write])
+        yield Case(f"a compaction of {name}, {how}", draft, [(1, 2, 3, 4), (5,)], is_quiet, [write, full])
+    for sync in range(1, syncs + 1):
+        steps = [write._replace(killed=sync), Step(["write"], batch(10, 11))]
+        yield Case(f"a write to buckets killed at sync {sync}, then another", BUCKETS, [(1, 2, 3, 4)], True, steps)
 
 
 def cases(syncs):
@@ -519,6 +532,7 @@ def main():
         for word, more in (("compact", compactions), ("follow", told), ("expire", expired)):
             tried += more(16) if knows(found.program, work, word) else []
         tried += consumed(16) if knows_consumers(found.program, work) else []
+        tried += grouped(16) if run([found.program, work / "parts", "create"], PARTS).status == 0 else []
         for number, case in enumerate(tried):
             begun, before = time.time(), tally.counts["images"]
             Trial(found.program, work, tally, case, random_of(found.seed, number), found.count).run()

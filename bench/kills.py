@@ -41,6 +41,8 @@ LOOKS = ("chdir", "open", "read", "getdents64", "statx", "stat", "lstat", "fstat
 ERRORS = ("EIO", "ENOSPC")
 MERGING = DRAFT[:-1] + b',"options":{"manifest.merge-min-count":"2"}}'
 TOLD = DRAFT[:-1] + b',"options":{"changelog-producer":"input"}}'
+BUCKETS = DRAFT[:-1] + b',"options":{"bucket":"4"}}'
+PARTS = DRAFT[:-1].replace(b'["id"]', b'["id","v"]') + b',"options":{"bucket":"2"},"partitionKeys":["v"]}'
 CONSUMER = b'{"nextSnapshot":1}'
 EXPIRE = ["expire", "--min", "1", "--max", "1"]
 
@@ -104,9 +106,25 @@ class Trials:
             Case("scan of sealed folders", many, ["scan"], b"", sealed, sealed, [4]),
             Case("snapshots", many, ["snapshots"], b"", found, found),
             *self.compactions(many),
+            *self.grouped(),
             *self.told(rows, found, then),
             *self.consumed(),
             *self.expired(),
+        ]
+
+    def grouped(self):
+        """Tables of several groups, where the program makes such."""
+        if self.command(self.work / "parts", "create", data=PARTS).status:
+            return []
+        first, rows = batch(1, 2, 3, 4, 5), batch(5, 6, 8, 9, 10)
+        buckets, parts = self.table("buckets", [first], BUCKETS), self.table("parts", [first], PARTS)
+        found, then = ([1, 2, 3, 4, 5], 1), ([1, 2, 3, 4, 5, 6, 8, 9, 10], 2)
+        twice = self.table("twice", [first, rows], BUCKETS)
+        return [
+            Case("a write to buckets", buckets, ["write"], rows, found, then),
+            Case("a write to partitions", parts, ["write"], rows, found, then),
+            Case("a compaction of buckets", twice, ["compact", "--full"], b"", then, (then[0], 3)),
+            Case("scan of partitions", parts, ["scan"], b"", found, found),
         ]
 
     def told(self, rows, found, then):
