@@ -9,7 +9,7 @@
 #     seconds, rows a second and memory of each.
 #   - SMALL commits of one row, with a `compact` after each thirtieth: the median time of a commit and of a compaction in
 #     each tenth part of them, so that it shows whether it grows; and the same with an `expire` after each hundredth that
-#     keeps a hundred snapshots.
+#     keeps the newest snapshot, and what else is of that very millisecond.
 # It ends with 1 where a scan prints other rows than were written. The gate never runs it. It wants GNU time, the program
 # to be built by ./paimon, and that it knows `compact`; without RocksDB or LevelDB (in Debian librocksdb-dev and
 # libleveldb-dev) it leaves that out. docs/COST.md has what it printed.
@@ -135,7 +135,7 @@ grow() {
         took $(((n - 1) / part)) write "$table" write
         [ $((n % few)) -ne 0 ] || took $(((n - 1) / part)) compact "$table" compact
         [ "$expired" -eq 0 ] || [ $((n % expired)) -ne 0 ] ||
-            took $(((n - 1) / part)) expire "$table" expire --min 1 --max "$expired" --millis 0
+            took $(((n - 1) / part)) expire "$table" expire --min 1 --millis 0
     done
     echo "$small commits of one row, a compact after each ${few}th, an expire after each ${expired}th: the medians of each tenth part, in ms"
     for what in write compact expire; do
